@@ -1,0 +1,37 @@
+-- The look-up of a device by its busid (01, "Bytes on the wire"): "the first device whose 32 busid bytes all match".
+-- proofs/Found.antt says the same with quantifiers.
+use Rattle.exports.specs.Devices.{devicesOf, noDevice}
+use Prim.Native.Nat.{ℕ, suc, _<_}
+use mathlib.Core.Path.{_≡_}
+use mathlib.Core.Bool.{cond}
+use mathlib.Core.List.{List, [], _∷_}
+use lib.ListN.{length, getD}
+use Rattle.exports.specs.declared.device.Device.{Device}
+use Rattle.exports.specs.declared.device.Table.{Table}
+use Rattle.exports.specs.declared.lookup.Found.{Found}
+use Rattle.exports.specs.declared.lookup.Found.the-variants.{At, Nothing}
+use Rattle.exports.specs.Rules.{same}
+
+-- The place of the first device whose busid bytes all match, where the devices stand from place i on.
+abbrev pub findFrom : ℕ → List ℕ → List Device → Found
+findFrom i busid [] = Nothing
+findFrom i busid (d ∷ ds) = cond (same (d .busid) busid) (At i) (findFrom (suc i) busid ds)
+
+abbrev pub findBusid : List ℕ → List Device → Found
+findBusid busid ds = findFrom 0 busid ds
+
+-- The look-up in a table: what stands past its count is not found.
+abbrev pub findIn : Table → List ℕ → Found
+findIn t busid = findBusid busid (devicesOf t)
+
+-- ## The same with quantifiers
+
+-- Place i is the first whose device has the busid.
+pub record First (ds : List Device) (busid : List ℕ) (i : ℕ) : Type 0 where
+  pub inside : i < length ds
+  pub has : getD ds i noDevice .busid ≡ busid
+  pub before : (j : ℕ) → j < i → getD ds j noDevice .busid ≡ busid → ⊥
+
+-- No device has the busid.
+abbrev pub None : List Device → List ℕ → Type 0
+None ds busid = (i : ℕ) → i < length ds → getD ds i noDevice .busid ≡ busid → ⊥

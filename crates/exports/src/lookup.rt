@@ -1,0 +1,58 @@
+// The look-up of a device by its busid.
+use crate::device::Device;
+use crate::device::MAX_DEVICES;
+use crate::device::Table;
+use wire::codes::BUSID_LEN;
+ghost use mathlib.Core.Path.{_≡_};
+ghost use lib.ListN.{take};
+ghost use Rattle.exports.specs.Lookup.{findBusid, findIn};
+
+// Where a device stands in a table, if it does.
+pub enum Found {
+    At(usize),
+    Nothing,
+}
+
+fn busid_of(d: Device) -> [u8; BUSID_LEN]
+    ensures { λ r. ⌜ r ≡ d .busid ⌝ }
+{
+    d.busid
+}
+
+// The first of the devices of a table that has the busid.
+fn find_busid(devices: [Device; MAX_DEVICES], count: usize, busid: [u8; BUSID_LEN]) -> Found
+    ensures { λ r. ⌜ r ≡ findBusid busid (take count devices) ⌝ }
+{
+    let mut i: usize = 0;
+    let found = 'devices: loop {
+        if count <= i {
+            return Found::Nothing;
+        }
+        if MAX_DEVICES <= i {
+            return Found::Nothing;
+        }
+        let d = devices[i];
+        let id = busid_of(d);
+        let mut j: usize = 0;
+        while j < BUSID_LEN {
+            if id[j] != busid[j] {
+                i += 1;
+                continue 'devices;
+            }
+            j += 1;
+        }
+        break i;
+    };
+    Found::At(found)
+}
+
+impl Table {
+    // The first device that has the busid, if one has it. A count above MAX_DEVICES finds among all that there are.
+    pub fn find(self, busid: [u8; BUSID_LEN]) -> Found
+        ensures { λ r. ⌜ r ≡ findIn self busid ⌝ }
+    {
+        let devices = self.devices;
+        let count = self.count;
+        find_busid(devices, count, busid)
+    }
+}

@@ -1,0 +1,100 @@
+use Prim.Native.Nat.{_≤_, _+_}
+use native.Mathlib.Omega.{arith}
+use mathlib.Core.Path.{_≡_, refl, sym}
+use lib.ListN.{length}
+use Rattle.wire.specs.Codes.{OP-LEN, OP-REP-IMPORT}
+use Rattle.wire.specs.Messages.{replyHead}
+use Rattle.wire.proofs.Parts.{wrote-none, wrote-all, wrote-over, written-next}
+use Rattle.replies.specs.Replies.{DEVICE-LEN, Shaped, deviceRecord, importReply}
+use Rattle.replies.proofs.Records.{unmapped, record-length, import-length}
+use borrow.Author.Needs.{needs}
+use Rattle.replies.proofs.import.import_reply.Statement.{statement}
+use Rattle.replies.proofs.import.import_reply.Tie as tie
+use Rattle.replies.proofs.import.import_reply.Reads as reads
+use Rattle.replies.proofs.import.import_reply.Lts as lts
+use Rattle.replies.proofs.record.write_record.Reads as write-record-reads
+use Rattle.wire.proofs.reply.reply_head.Reads as reply-head-reads
+use Rattle.wire.proofs.reply.write.Reads as write-reads
+
+shaped : (c : tie.Start) → Shaped (c .args .d)
+shaped c = search (unmapped, needs)
+
+-- src/reply.rt:230:26
+add-if1 : tie.Need-add-if1
+add-if1 c = search needs
+
+-- src/reply.rt:231:13
+returns : tie.Need-returns
+returns c =
+    let s = c .before .before in
+    wrote-none (importReply (s .args .d)) (s .args .reply .now) (rw (import-length (s .args .d) (shaped s)) (c .if1 .taken))
+
+-- src/reply.rt:233:20
+reply-head-requires : tie.Need-reply-head-requires
+reply-head-requires c κs = search needs
+
+-- src/reply.rt:234:22
+slice-aggregate-write : tie.Need-slice-aggregate-write
+slice-aggregate-write c = search needs
+
+-- src/reply.rt:234:9
+write-requires : tie.Need-write-requires
+write-requires c κs = search needs
+
+-- src/reply.rt:235:22
+sub-write-record : tie.Need-sub-write-record
+sub-write-record c = search needs
+
+-- src/reply.rt:235:22
+part-write-record-start : tie.Need-part-write-record-start
+part-write-record-start c = search needs
+
+-- src/reply.rt:235:22
+part-write-record-end : tie.Need-part-write-record-end
+part-write-record-end c = search needs
+
+-- src/reply.rt:235:9
+write-record-requires : tie.Need-write-record-requires
+write-record-requires c κs = search needs
+
+-- src/reply.rt:236:9
+add-result : tie.Need-add-result
+add-result c = search needs
+
+-- src/reply.rt:227:5
+same-length : tie.Need-same-length
+same-length c = search needs
+
+-- src/reply.rt:227:5
+returns-2 : tie.Need-returns-2
+unfolding importReply
+returns-2 c =
+    let k2 = c .before .before in
+    let k1 = k2 .before .before .before .before in
+    let n = k1 .before .before .before in
+    let s = n .before .before .before in
+    let d = s .args .d in
+    let D = s .args .reply .now in
+    let H = replyHead OP-REP-IMPORT 0 in
+    let room : OP-LEN + DEVICE-LEN ≤ length D = n .before .if1 .left in
+    let l1 : length (k1 .write .last .0) ≡ length D = k1 .write .kept .0 in
+    let e1 = wrote-all H D (k1 .write .last .0) (k1 .write .result) (omega arith) (rw (n .reply-head .ensures) at (k1 .write .ensures)) in
+    let e2 = written-next D (k1 .write .last .0) H (deviceRecord d) (k2 .write-record .last .0) OP-LEN _ (k2 .write-record .result) refl refl e1 (omega (arith, record-length d (shaped s))) (k2 .write-record .ensures) in
+    wrote-over (importReply d) D _ (OP-LEN + DEVICE-LEN) (omega (arith, import-length d (shaped s))) e2 (sym (import-length d (shaped s)))
+
+pub import-reply-spec : {M : Type 1} → statement M
+import-reply-spec =
+    tie.close
+    (tie.spec
+    add-if1
+    returns
+    reply-head-requires
+    slice-aggregate-write
+    write-requires
+    sub-write-record
+    part-write-record-start
+    part-write-record-end
+    write-record-requires
+    add-result
+    same-length
+    returns-2)

@@ -1,0 +1,111 @@
+-- The replies that show devices (01, "List reply" and "Import reply"; source document 000, section 3).
+use Prim.Native.Nat.{ℕ, _+_, _*_, _≤_}
+use mathlib.Core.Path.{_≡_}
+use mathlib.Core.List.{List, [], _∷_, _++_, map}
+use mathlib.Core.Bool.{Bool, true, _&&_, cond}
+use lib.ListN.{length, take}
+use lib.Dec.{leb}
+use Rattle.wire.specs.Codes.{OP-REP-DEVLIST, OP-REP-IMPORT, BUSID-LEN}
+use Rattle.wire.specs.Fields.{Field, u8, u16, u32, pack, joined}
+use Rattle.wire.specs.Messages.{replyHead}
+use Rattle.exports.specs.Devices.{MAX-DEVICES, MAX-INTERFACES, PATH-LEN, devicesOf, interfacesOf}
+use Rattle.exports.specs.Rules.{every}
+use Rattle.exports.specs.declared.device.Interface.{Interface}
+use Rattle.exports.specs.declared.device.Device.{Device}
+use Rattle.exports.specs.declared.device.Table.{Table}
+
+-- ## Sizes
+
+-- The bytes of a device's numbers, of its whole record and of an interface's.
+abbrev pub NUMBERS-LEN : ℕ
+NUMBERS-LEN = 24
+
+abbrev pub DEVICE-LEN : ℕ
+DEVICE-LEN = 312
+
+abbrev pub INTERFACE-LEN : ℕ
+INTERFACE-LEN = 4
+
+-- The bytes of a list reply before its first device.
+abbrev pub LIST-HEAD-LEN : ℕ
+LIST-HEAD-LEN = 12
+
+-- ## Devices and interfaces
+
+-- A device's numbers, behind its path and its busid.
+abbrev pub numbersOf : Device → List Field
+numbersOf d =
+    u32 (d .busnum) ∷ u32 (d .devnum) ∷ u32 (d .speed) ∷
+    u16 (d .idVendor) ∷ u16 (d .idProduct) ∷ u16 (d .bcdDevice) ∷
+    u8 (d .bDeviceClass) ∷ u8 (d .bDeviceSubClass) ∷ u8 (d .bDeviceProtocol) ∷
+    u8 (d .bConfigurationValue) ∷ u8 (d .bNumConfigurations) ∷ u8 (d .bNumInterfaces) ∷ []
+
+-- The 312 bytes of a device, in a list and in an import reply.
+unfoldable pub deviceRecord : Device → List ℕ
+deviceRecord d = d .path ++ d .busid ++ pack (numbersOf d)
+
+-- The 4 bytes of an interface: three, and a zero.
+abbrev pub interfaceRecord : Interface → List ℕ
+interfaceRecord i = i .bInterfaceClass ∷ i .bInterfaceSubClass ∷ i .bInterfaceProtocol ∷ 0 ∷ []
+
+-- All the interfaces that a device has room for.
+abbrev pub recordsOf : Device → List (List ℕ)
+recordsOf d = map interfaceRecord (d .interfaces)
+
+-- A device in a list: its record and its interfaces.
+unfoldable pub listed : Device → List ℕ
+listed d = deviceRecord d ++ joined interfaceRecord (interfacesOf d)
+
+-- ## The list reply
+
+-- What a list reply starts with: the head and the count of devices.
+abbrev pub listHead : ℕ → List ℕ
+listHead count = replyHead OP-REP-DEVLIST 0 ++ pack (u32 count ∷ [])
+
+-- A table that has a list reply: no more devices, and none with more interfaces, than there is room for.
+abbrev pub few : Device → Bool
+few d = leb (d .bNumInterfaces) MAX-INTERFACES
+
+abbrev pub listable : Table → Bool
+listable t = leb (t .count) MAX-DEVICES && every few (devicesOf t)
+
+-- The list reply: each device straight after the last. No other table has one.
+unfoldable pub listReply : Table → List ℕ
+listReply t = cond (listable t) (listHead (t .count) ++ joined listed (devicesOf t)) []
+
+-- ## The import reply
+
+-- The import reply: the device's record with status 0, or status 1 and nothing more.
+unfoldable pub importReply : Device → List ℕ
+importReply d = replyHead OP-REP-IMPORT 0 ++ deviceRecord d
+
+unfoldable pub importRefusal : List ℕ
+importRefusal = replyHead OP-REP-IMPORT 1
+
+-- ## How long they are
+
+-- The bytes of a device in a list, and of devices one after the other.
+abbrev pub listedSize : Device → ℕ
+listedSize d = DEVICE-LEN + d .bNumInterfaces * INTERFACE-LEN
+
+abbrev pub sizeOf : List Device → ℕ
+sizeOf [] = 0
+sizeOf (d ∷ ds) = listedSize d + sizeOf ds
+
+-- The most that a device and a whole list reply can be.
+abbrev pub MAX-LISTED : ℕ
+MAX-LISTED = DEVICE-LEN + MAX-INTERFACES * INTERFACE-LEN
+
+abbrev pub MAX-LIST : ℕ
+MAX-LIST = LIST-HEAD-LEN + MAX-DEVICES * MAX-LISTED
+
+-- What the types of a device's arrays say of it.
+abbrev pub Shaped : Device → Type 0
+Shaped d = (length (d .path) ≡ PATH-LEN) × (length (d .busid) ≡ BUSID-LEN) × (length (d .interfaces) ≡ MAX-INTERFACES)
+
+-- What the writer of a list reply asks of those who call it: devices that have a reply, their interfaces' bytes, and room.
+pub record Listing (devices : List Device) (interfaces : List (List (List ℕ))) (n : ℕ) (reply : List ℕ) : Type 0 where
+  pub count : n ≤ MAX-DEVICES
+  pub bytes : interfaces ≡ map recordsOf devices
+  pub each : every few (take n devices) ≡ true
+  pub room : LIST-HEAD-LEN + length (joined listed (take n devices)) ≤ length reply

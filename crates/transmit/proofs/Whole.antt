@@ -1,0 +1,66 @@
+-- The whole goes out, in order, within as many steps as it has bytes.
+use Prim.Native.Nat.{ℕ, zero, suc, _+_, _-_, _≤_, min}
+use native.Mathlib.Nat.{add-sub-cancel-left}
+use native.Mathlib.Omega.{arith}
+use mathlib.Core.Bool.{Bool, true, false, cond}
+use mathlib.Core.List.{List, [], _++_, flatten}
+use mathlib.Core.Logic.{inl}
+use mathlib.Core.Path.{_≡_, refl, sym, ap₂, _∙_, subst₃}
+use lib.Dec.{eqb}
+use lib.ListN.{length, take}
+use lib.Seq.{take-add}
+use borrow.Author.Tests.{eqb-true}
+use Rattle.wire.specs.Codes.{HEADER-LEN, DIR-IN}
+use Rattle.transmit.specs.Part.{next, segments, partOf, wireLength, replyOf, sentAfter, outAfter, Sends}
+use Rattle.transmit.proofs.Segments.{next-in-place, next-within, next-at-most, next-advances, next-empty-iff}
+use Rattle.transmit.proofs.Parts.{flatten-segments, segments-length, part-next}
+
+module _ (ss : List (List ℕ)) (most : ℕ → ℕ) where
+  in-order : (k : ℕ) → outAfter (next ss) most k ≡ take (sentAfter (next ss) most k) (flatten ss)
+  in-order zero = refl
+  in-order (suc k) =
+      let sent = sentAfter (next ss) most k in
+      ap₂ _++_ (in-order k) (next-in-place ss sent (most k)) ∙ sym (take-add sent (length (next ss sent (most k))) (flatten ss))
+
+  never-past : (k : ℕ) → sentAfter (next ss) most k ≤ length (flatten ss)
+  never-past zero = omega arith
+  never-past (suc k) = omega (arith, never-past k, next-within ss (sentAfter (next ss) most k) (most k))
+
+  advances : ((k : ℕ) → 1 ≤ most k) → (k : ℕ) → min k (length (flatten ss)) ≤ sentAfter (next ss) most k
+  advances m zero = omega arith
+  advances m (suc k) = omega (arith, advances m k, next-advances ss (sentAfter (next ss) most k) (most k) (m k))
+
+-- any list of segments
+pub segments-sent : (ss : List (List ℕ)) → Sends (next ss) (flatten ss) (length (flatten ss))
+segments-sent ss =
+    record {
+      size = refl;
+      at-most = λ most k. next-at-most ss (sentAfter (next ss) most k) (most k);
+      in-order = in-order ss;
+      never-past = never-past ss;
+      advances = advances ss;
+      all-out = λ most m k h. (
+        omega (arith, advances ss most m k, never-past ss most k),
+        next-empty-iff ss (sentAfter (next ss) most k) (most k) .1 (inl (omega (arith, advances ss most m k))),
+      );
+    }
+
+-- a header and data
+pub sent-whole : (header frame : List ℕ) (n : ℕ) → HEADER-LEN ≤ length header → n ≤ length frame
+    → Sends (partOf header frame n) (take HEADER-LEN header ++ take n frame) (HEADER-LEN + n)
+sent-whole header frame n h f =
+    subst₃ Sends (λ i sent most. sym (part-next header frame n h f sent most) i) (flatten-segments header frame n)
+    (segments-length header frame n h f) (segments-sent (segments header frame n))
+
+-- the reply to a completion: the header, and for IN the first `actual` bytes of the data, which are there; else no data
+pub reply-sent : (header frame : List ℕ) (direction actual : ℕ) → HEADER-LEN ≤ length header
+    → (direction ≡ DIR-IN → actual ≤ length frame)
+    → Sends (partOf header frame (wireLength direction actual - HEADER-LEN)) (replyOf header frame direction actual)
+    (wireLength direction actual)
+reply-sent header frame direction actual h f = go (eqb direction DIR-IN) refl
+  where
+    go : (t : Bool) → eqb direction DIR-IN ≡ t
+        → Sends (partOf header frame (HEADER-LEN + cond t actual 0 - HEADER-LEN))
+        (take HEADER-LEN header ++ cond t (take actual frame) []) (HEADER-LEN + cond t actual 0)
+    go true e = rw add-sub-cancel-left (sent-whole header frame actual h (f (eqb-true direction DIR-IN e)))
+    go false e = sent-whole header frame 0 h (omega arith)

@@ -1,0 +1,76 @@
+-- "Sending without copying" (01): the part that goes out next, and what is out after some steps.
+use Prim.Native.Nat.{ℕ, zero, suc, _+_, _-_, _≤_, _<_, min}
+use mathlib.Core.Bool.{cond}
+use mathlib.Core.List.{List, [], _∷_, _++_}
+use mathlib.Core.Logic.{_⊎_}
+use mathlib.Core.Path.{_≡_}
+use lib.Dec.{ltb, eqb}
+use lib.ListN.{length, take, drop}
+use Rattle.wire.specs.Codes.{HEADER-LEN, DIR-IN}
+
+-- ## One step
+
+-- The bytes of a list of segments that go out next, when `sent` are out: at most `most`, and none past the end of the
+-- segment in which they start.
+unfoldable pub next : List (List ℕ) → ℕ → ℕ → List ℕ
+next [] sent most = []
+next (s ∷ ss) sent most = cond (ltb sent (length s)) (take most (drop sent s)) (next ss (sent - length s) most)
+
+-- A reply's segments: the header, then `n` bytes of data.
+abbrev pub segments : List ℕ → List ℕ → ℕ → List (List ℕ)
+segments header frame n = take HEADER-LEN header ∷ take n frame ∷ []
+
+-- The part of a reply that goes out next; empty where the header or the data is too short.
+unfoldable pub partOf : List ℕ → List ℕ → ℕ → ℕ → ℕ → List ℕ
+partOf header frame n sent most =
+    cond (ltb (length header) HEADER-LEN) [] (cond (ltb (length frame) n) [] (next (segments header frame n) sent most))
+
+-- Where the segment ends to which the next byte belongs.
+abbrev pub segmentEnd : ℕ → ℕ → ℕ
+segmentEnd n sent = cond (ltb sent HEADER-LEN) HEADER-LEN (HEADER-LEN + n)
+
+-- The causes of an empty part.
+abbrev pub Causes : List ℕ → List ℕ → ℕ → ℕ → ℕ → Type 0
+Causes header frame n sent most =
+    (HEADER-LEN + n ≤ sent) ⊎ (most ≡ 0) ⊎ (length header < HEADER-LEN) ⊎ (length frame < n)
+
+-- ## The reply to a completion
+
+-- How many bytes it has on the wire: data for IN only.
+abbrev pub wireLength : ℕ → ℕ → ℕ
+wireLength direction actual = HEADER-LEN + cond (eqb direction DIR-IN) actual 0
+
+-- Its bytes on the wire.
+abbrev pub replyOf : List ℕ → List ℕ → ℕ → ℕ → List ℕ
+replyOf header frame direction actual = take HEADER-LEN header ++ cond (eqb direction DIR-IN) (take actual frame) []
+
+-- ## Step by step
+
+-- A sender: the part that goes out, given how many bytes are out and the most that may go.
+abbrev pub Sender : Type 0
+Sender = ℕ → ℕ → List ℕ
+
+-- How many bytes are out after `k` steps, where step `k` may send `most k`; steps count from 0.
+abbrev pub sentAfter : Sender → (ℕ → ℕ) → ℕ → ℕ
+sentAfter send most zero = 0
+sentAfter send most (suc k) = let sent = sentAfter send most k in sent + length (send sent (most k))
+
+-- The part of step `k`.
+abbrev pub partAt : Sender → (ℕ → ℕ) → ℕ → List ℕ
+partAt send most k = send (sentAfter send most k) (most k)
+
+-- The bytes that are out after `k` steps.
+abbrev pub outAfter : Sender → (ℕ → ℕ) → ℕ → List ℕ
+outAfter send most zero = []
+outAfter send most (suc k) = outAfter send most k ++ partAt send most k
+
+-- "the whole goes out, in order, within 48 + n steps" (01): a sender puts out a whole of `total` bytes, whatever each
+-- step may send. The last two are of steps that may each send at least one byte.
+pub record Sends (send : Sender) (whole : List ℕ) (total : ℕ) : Type 0 where
+  pub size : length whole ≡ total
+  pub at-most : (most : ℕ → ℕ) (k : ℕ) → length (partAt send most k) ≤ most k
+  pub in-order : (most : ℕ → ℕ) (k : ℕ) → outAfter send most k ≡ take (sentAfter send most k) whole
+  pub never-past : (most : ℕ → ℕ) (k : ℕ) → sentAfter send most k ≤ total
+  pub advances : (most : ℕ → ℕ) → ((k : ℕ) → 1 ≤ most k) → (k : ℕ) → min k total ≤ sentAfter send most k
+  pub all-out : (most : ℕ → ℕ) → ((k : ℕ) → 1 ≤ most k) → (k : ℕ) → total ≤ k
+      → (sentAfter send most k ≡ total) × (partAt send most k ≡ [])
