@@ -7,12 +7,12 @@ use exports::device::MAX_INTERFACES;
 use exports::device::PATH_LEN;
 use exports::device::Table;
 use libc::STDOUT_FILENO;
+use messages::reply::RetSubmit;
+use messages::reply::write_ret_submit;
 use wire::codes::BUSID_LEN;
 use wire::codes::DIR_IN;
 use wire::codes::HEADER_LEN;
-use wire::reply::RetSubmit;
-use wire::reply::write;
-use wire::reply::write_ret_submit;
+use wire::writing::write;
 
 // The bytes of a line of output, of a reply buffer and of a frame.
 const LINE: usize = 32;

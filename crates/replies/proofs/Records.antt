@@ -6,7 +6,7 @@ use native.Mathlib.Omega.{arith}
 use lib.ListN.{length, take, getD, length-append, length-map}
 use lib.Seq.{length-take-le}
 use Rattle.wire.specs.Codes.{OP-LEN, OP-REP-IMPORT}
-use Rattle.wire.specs.Messages.{replyHead}
+use Rattle.messages.specs.Messages.{replyHead}
 use Rattle.wire.specs.BigEndian.{bytesOf}
 use Rattle.wire.specs.Fields.{pack, joined}
 use Rattle.wire.proofs.Numbers.{one-byte}

@@ -7,7 +7,7 @@ use lib.ListN.{length, take}
 use lib.Dec.{leb}
 use Rattle.wire.specs.Codes.{OP-REP-DEVLIST, OP-REP-IMPORT, BUSID-LEN}
 use Rattle.wire.specs.Fields.{Field, u8, u16, u32, pack, joined}
-use Rattle.wire.specs.Messages.{replyHead}
+use Rattle.messages.specs.Messages.{replyHead}
 use Rattle.exports.specs.Devices.{MAX-DEVICES, MAX-INTERFACES, PATH-LEN, devicesOf, interfacesOf}
 use Rattle.exports.specs.Rules.{every}
 use Rattle.exports.specs.declared.device.Interface.{Interface}

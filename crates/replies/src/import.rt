@@ -2,10 +2,10 @@
 use crate::record::DEVICE_LEN;
 use crate::record::write_record;
 use exports::device::Device;
+use messages::reply::reply_head;
 use wire::codes::OP_LEN;
 use wire::codes::OP_REP_IMPORT;
-use wire::reply::reply_head;
-use wire::reply::write;
+use wire::writing::write;
 ghost use Rattle.wire.specs.Writing.{Wrote};
 ghost use Rattle.replies.specs.Replies.{importReply, importRefusal};
 

@@ -3,7 +3,7 @@ use exports::device::Device;
 use exports::device::Interface;
 use exports::device::MAX_DEVICES;
 use exports::device::MAX_INTERFACES;
-use wire::reply::write;
+use wire::writing::write;
 ghost use mathlib.Core.Path.{_≡_};
 ghost use mathlib.Core.List.{[], map};
 ghost use Prim.Native.Nat.{_*_, _≤_, _<_};

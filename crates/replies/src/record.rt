@@ -4,7 +4,7 @@ use exports::device::PATH_LEN;
 use wire::codes::BUSID_LEN;
 use wire::number::bytes2;
 use wire::number::bytes4;
-use wire::reply::write;
+use wire::writing::write;
 ghost use mathlib.Core.Path.{_≡_};
 ghost use Rattle.wire.specs.Fields.{pack};
 ghost use Rattle.wire.specs.Writing.{Wrote};

@@ -8,7 +8,7 @@ use Rattle.demo.proofs.show_sending.Lts as lts
 use Rattle.demo.proofs.print_bytes.Reads as print-bytes-reads
 use Rattle.io.proofs.write_all.Reads as write-all-reads
 use Rattle.transmit.proofs.part.Reads as part-reads
-use Rattle.wire.proofs.reply.write_ret_submit.Reads as write-ret-submit-reads
+use Rattle.messages.proofs.reply.write_ret_submit.Reads as write-ret-submit-reads
 
 abbrev Inv-loop : tie.InvT-loop
 Inv-loop header frame sent₀ step₀ sent step = Unit

@@ -3,7 +3,7 @@ use native.Mathlib.Omega.{arith}
 use mathlib.Core.Path.{_≡_, refl, sym}
 use lib.ListN.{length}
 use Rattle.wire.specs.Codes.{OP-LEN, OP-REP-IMPORT}
-use Rattle.wire.specs.Messages.{replyHead}
+use Rattle.messages.specs.Messages.{replyHead}
 use Rattle.wire.proofs.Parts.{wrote-none, wrote-all, wrote-over, written-next}
 use Rattle.replies.specs.Replies.{DEVICE-LEN, Shaped, deviceRecord, importReply}
 use Rattle.replies.proofs.Records.{unmapped, record-length, import-length}
@@ -13,8 +13,8 @@ use Rattle.replies.proofs.import.import_reply.Tie as tie
 use Rattle.replies.proofs.import.import_reply.Reads as reads
 use Rattle.replies.proofs.import.import_reply.Lts as lts
 use Rattle.replies.proofs.record.write_record.Reads as write-record-reads
-use Rattle.wire.proofs.reply.reply_head.Reads as reply-head-reads
-use Rattle.wire.proofs.reply.write.Reads as write-reads
+use Rattle.messages.proofs.reply.reply_head.Reads as reply-head-reads
+use Rattle.wire.proofs.writing.write.Reads as write-reads
 
 shaped : (c : tie.Start) → Shaped (c .args .d)
 shaped c = search (unmapped, needs)

@@ -4,8 +4,8 @@ use Rattle.replies.proofs.import.refuse_import.Statement.{statement}
 use Rattle.replies.proofs.import.refuse_import.Tie as tie
 use Rattle.replies.proofs.import.refuse_import.Reads as reads
 use Rattle.replies.proofs.import.refuse_import.Lts as lts
-use Rattle.wire.proofs.reply.reply_head.Reads as reply-head-reads
-use Rattle.wire.proofs.reply.write.Reads as write-reads
+use Rattle.messages.proofs.reply.reply_head.Reads as reply-head-reads
+use Rattle.wire.proofs.writing.write.Reads as write-reads
 
 -- src/reply.rt:244:16
 reply-head-requires : tie.Need-reply-head-requires

@@ -15,7 +15,7 @@ use Rattle.replies.proofs.interface.write_interfaces.Tie as tie
 use Rattle.replies.proofs.interface.write_interfaces.Reads as reads
 use Rattle.replies.proofs.interface.write_interfaces.Lts as lts
 use Rattle.replies.proofs.interface.interface_at.Reads as interface-at-reads
-use Rattle.wire.proofs.reply.write.Reads as write-reads
+use Rattle.wire.proofs.writing.write.Reads as write-reads
 
 abbrev Inv-loop : tie.InvT-loop
 Inv-loop out₀ records n i₀ out i = (i ≤ n) × (length (joined (λ r. r) (take i records)) ≡ i * INTERFACE-LEN) × (out ≡ over (joined (λ r. r) (take i records)) out₀) × (length out ≡ length out₀)

@@ -4,7 +4,7 @@ use Rattle.replies.proofs.list.list_head.Tie as tie
 use Rattle.replies.proofs.list.list_head.Reads as reads
 use Rattle.replies.proofs.list.list_head.Lts as lts
 use Rattle.wire.proofs.number.bytes4.Reads as bytes4-reads
-use Rattle.wire.proofs.reply.reply_head.Reads as reply-head-reads
+use Rattle.messages.proofs.reply.reply_head.Reads as reply-head-reads
 
 -- src/reply.rt:171:13
 reply-head-requires : tie.Need-reply-head-requires

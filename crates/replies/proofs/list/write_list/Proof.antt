@@ -23,7 +23,7 @@ use Rattle.replies.proofs.list.write_list.Reads as reads
 use Rattle.replies.proofs.list.write_list.Lts as lts
 use Rattle.replies.proofs.list.list_head.Reads as list-head-reads
 use Rattle.replies.proofs.list.write_device.Reads as write-device-reads
-use Rattle.wire.proofs.reply.write.Reads as write-reads
+use Rattle.wire.proofs.writing.write.Reads as write-reads
 
 abbrev Inv-loop : tie.InvT-loop
 Inv-loop reply₀ n devices interfaces at₀ i₀ reply at i =

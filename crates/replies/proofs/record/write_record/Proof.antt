@@ -17,7 +17,7 @@ use Rattle.replies.proofs.record.write_record.Tie as tie
 use Rattle.replies.proofs.record.write_record.Reads as reads
 use Rattle.replies.proofs.record.write_record.Lts as lts
 use Rattle.replies.proofs.record.numbers.Reads as numbers-reads
-use Rattle.wire.proofs.reply.write.Reads as write-reads
+use Rattle.wire.proofs.writing.write.Reads as write-reads
 
 shaped : (c : tie.Start) → Shaped (c .args .d)
 shaped c = search (unmapped, needs)

@@ -1,0 +1,72 @@
+-- What each message is made of (source document 000, section 3; 01, "Bytes on the wire").
+use Prim.Native.Nat.{ℕ}
+use mathlib.Core.List.{List, [], _∷_, _++_}
+use mathlib.Core.Bool.{Bool, true, false, cond}
+use lib.ListN.{take, drop}
+use lib.Dec.{eqb}
+use Rattle.wire.specs.Codes
+use Rattle.wire.specs.Fields.{u16, u32, pack, field}
+use Rattle.messages.specs.declared.request.Request.{Request}
+use Rattle.messages.specs.declared.message.Submit.{Submit}
+use Rattle.messages.specs.declared.message.Unlink.{Unlink}
+use Rattle.messages.specs.declared.reply.RetSubmit.{RetSubmit}
+use Rattle.messages.specs.declared.reply.RetUnlink.{RetUnlink}
+
+-- ## Read: requests
+
+-- A request's version and code; its status is ignored.
+abbrev pub requestOf : List ℕ → Request
+requestOf m = record { version = field 2 Codes.VERSION-AT m; code = field 2 Codes.CODE-AT m }
+
+-- The busid of an import request, all its bytes.
+abbrev pub busidOf : List ℕ → List ℕ
+busidOf m = take Codes.BUSID-LEN (drop Codes.OP-LEN m)
+
+-- ## Read: the messages of an attached session
+
+abbrev pub commandOf : List ℕ → ℕ
+commandOf m = field 4 Codes.COMMAND-AT m
+
+abbrev pub setupOf : List ℕ → List ℕ
+setupOf m = take Codes.SETUP-LEN (drop Codes.SETUP-AT m)
+
+abbrev pub submitOf : List ℕ → Submit
+submitOf m =
+    record {
+      seqnum = field 4 Codes.SEQNUM-AT m;
+      devid = field 4 Codes.DEVID-AT m;
+      direction = field 4 Codes.DIRECTION-AT m;
+      ep = field 4 Codes.EP-AT m;
+      flags = field 4 Codes.FLAGS-AT m;
+      length = field 4 Codes.LENGTH-AT m;
+      frame = field 4 Codes.FRAME-AT m;
+      packets = field 4 Codes.PACKETS-AT m;
+      interval = field 4 Codes.INTERVAL-AT m;
+      setup = setupOf m;
+    }
+
+-- An unlink's devid, direction, ep and last 24 bytes are ignored.
+abbrev pub unlinkOf : List ℕ → Unlink
+unlinkOf m = record { seqnum = field 4 Codes.SEQNUM-AT m; target = field 4 Codes.UNLINK-SEQNUM-AT m }
+
+-- ## Written: replies to requests
+
+-- The head of a reply: the version, the reply's code, its status.
+abbrev pub replyHead : ℕ → ℕ → List ℕ
+replyHead code status = pack (u16 Codes.VERSION ∷ u16 code ∷ u32 status ∷ [])
+
+-- ## Written: replies to messages
+
+-- USBIP_RET_SUBMIT: devid, direction and ep are 0, error_count too, and 8 zeros end it.
+abbrev pub retSubmit : RetSubmit → List ℕ
+retSubmit r =
+    pack
+    (u32 Codes.RET-SUBMIT ∷ u32 (r .seqnum) ∷ u32 0 ∷ u32 0 ∷ u32 0 ∷
+    u32 (r .status) ∷ u32 (r .actual) ∷ u32 (r .frame) ∷ u32 (r .packets) ∷ u32 0 ∷ u32 0 ∷ u32 0 ∷ [])
+
+-- USBIP_RET_UNLINK: the unlink's own seqnum, three zeros, the status, 24 zeros.
+abbrev pub retUnlink : RetUnlink → List ℕ
+retUnlink r =
+    pack
+    (u32 Codes.RET-UNLINK ∷ u32 (r .seqnum) ∷ u32 0 ∷ u32 0 ∷ u32 0 ∷
+    u32 (r .status) ∷ u32 0 ∷ u32 0 ∷ u32 0 ∷ u32 0 ∷ u32 0 ∷ u32 0 ∷ [])
