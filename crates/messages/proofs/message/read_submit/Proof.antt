@@ -37,7 +37,17 @@ read-setup-requires : tie.Need-read-setup-requires
 read-setup-requires c κs = search needs
 
 returns : tie.Need-returns
-returns c = cc
+returns c =
+    let interval = c .before in
+    let packets = interval .before in
+    let frame = packets .before in
+    let length = frame .before in
+    let flags = length .before in
+    let ep = flags .before in
+    let direction = ep .before in
+    let devid = direction .before in
+    let seqnum = devid .before in
+    simp (seqnum .field32 .ensures, devid .field322 .ensures, direction .field323 .ensures, ep .field324 .ensures, flags .field325 .ensures, length .field326 .ensures, frame .field327 .ensures, packets .field328 .ensures, interval .field329 .ensures, c .read-setup .ensures)
 
 pub read-submit-spec : {M : Type 1} → statement M
 read-submit-spec =

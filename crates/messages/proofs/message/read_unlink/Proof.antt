@@ -12,7 +12,7 @@ field32-requires-2 : tie.Need-field32-requires-2
 field32-requires-2 c κs = search needs
 
 returns : tie.Need-returns
-returns c = cc
+returns c = simp (c .before .field32 .ensures, c .field322 .ensures)
 
 pub read-unlink-spec : {M : Type 1} → statement M
 read-unlink-spec = tie.close (tie.spec field32-requires field32-requires-2 returns)

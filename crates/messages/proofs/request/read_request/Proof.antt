@@ -12,7 +12,7 @@ field16-requires-2 : tie.Need-field16-requires-2
 field16-requires-2 c κs = search needs
 
 returns : tie.Need-returns
-returns c = cc
+returns c = simp (c .before .field16 .ensures, c .field162 .ensures)
 
 pub read-request-spec : {M : Type 1} → statement M
 read-request-spec = tie.close (tie.spec field16-requires field16-requires-2 returns)
