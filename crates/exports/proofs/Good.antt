@@ -1,5 +1,5 @@
--- A table passes the test exactly when it keeps the rules.
-use Rattle.exports.specs.Devices.{MAX-DEVICES, MAX-INTERFACES, devicesOf, noDevice}
+-- A device passes the test exactly when it keeps the rules, and two devices exactly when they do.
+use Rattle.exports.specs.Devices.{MAX-INTERFACES}
 use Prim.Native.Nat.{ℕ, zero, suc, suc-le-suc, _+_, _-_, _<_, _≤_}
 use mathlib.Core.Path.{_≡_, refl, sym, ap, _∙_}
 use mathlib.Core.Logic.{_↔_}
@@ -10,11 +10,10 @@ use native.Mathlib.Omega.{arith}
 use borrow.Author.Tests.{eqb-true, eqb-false, eq-eqb, ne-eqb}
 use lib.Dec.{eqb}
 use lib.ListN.{length, drop, getD, length-drop}
-use lib.Seq.{getD-drop, length-take-le}
+use lib.Seq.{getD-drop}
 use Rattle.exports.specs.declared.device.Device.{Device}
-use Rattle.exports.specs.declared.device.Table.{Table}
-use Rattle.exports.specs.Rules.{MAX-BUSNUM, MAX-DEVNUM, firstZero, text, within, goodDevice, same, sameNumbers, apart, goodTable, Text, DeviceRules, deviceCount, Rules}
-use Rattle.exports.proofs.Tests.{leb-iff, eqb-iff, and-iff, not-iff, not-or, same-iff, every-iff, pairwise-iff}
+use Rattle.exports.specs.Rules.{MAX-BUSNUM, MAX-DEVNUM, firstZero, text, within, goodDevice, same, sameNumbers, apart, Text, DeviceRules}
+use Rattle.exports.proofs.Tests.{leb-iff, eqb-iff, and-iff, not-iff, not-or, same-iff, every-iff}
 
 -- ## A text, of any size
 
@@ -103,33 +102,10 @@ device-iff d =
 
 -- ## Two devices
 
-abbrev Apart : Device → Device → Type 0
+abbrev pub Apart : Device → Device → Type 0
 Apart d e = (d .busid ≡ e .busid → ⊥) × ((d .busnum ≡ e .busnum) × (d .devnum ≡ e .devnum) → ⊥)
 
-apart-iff : (d e : Device) → (apart d e ≡ true) ↔ Apart d e
+pub apart-iff : (d e : Device) → (apart d e ≡ true) ↔ Apart d e
 apart-iff d e =
     rw (not-or (same (d .busid) (e .busid)) (sameNumbers d e))
     (and-iff (not-iff (same-iff (d .busid) (e .busid))) (not-iff (and-iff (eqb-iff (d .busnum) (e .busnum)) (eqb-iff (d .devnum) (e .devnum)))))
-
--- ## The table
-
-pub good-iff : (t : Table) → (goodTable t ≡ true) ↔ Rules t
-unfolding goodTable
-good-iff t =
-    let e =
-    and-iff (and-iff (leb-iff (t .count) MAX-DEVICES) (every-iff noDevice goodDevice DeviceRules device-iff (devicesOf t)))
-    (pairwise-iff noDevice apart Apart apart-iff (devicesOf t)) in (
-      λ h.
-          let p = e .0 h in
-          record {
-            few = p .0 .0;
-            each = p .0 .1;
-            busids = λ i j h l. p .1 i j h l .0;
-            numbers = λ i j h l. p .1 i j h l .1;
-          },
-      λ r. e .1 ((r .few, r .each), λ i j h l. (r .busids i j h l, r .numbers i j h l)),
-    )
-
--- an array as long as its type says has as many devices as the count, where the count is small enough
-pub as-many : (t : Table) → length (t .devices) ≡ MAX-DEVICES → t .count ≤ MAX-DEVICES → deviceCount t ≡ t .count
-as-many t l h = length-take-le (t .count) (t .devices) (omega arith)

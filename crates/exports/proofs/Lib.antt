@@ -1,5 +1,4 @@
--- The laws of the table's rules and of the look-up: Good and Found are the theorems.
+-- The laws of the devices' rules, which the crates above cite too: Good is the theorem.
 pub mod Walks
 pub mod Tests
 pub mod Good
-pub mod Found

@@ -1,4 +1,4 @@
--- Tests and what they say: of numbers, of two lists, of every element of a list, of every two.
+-- Tests and what they say: of numbers, of two lists, of every element of a list.
 use Prim.Native.Nat.{ℕ, zero, suc, suc-le-suc, _<_, _≤_}
 use mathlib.Core.Path.{_≡_, refl, sym, ap, _∙_}
 use mathlib.Core.Logic.{_↔_}
@@ -9,7 +9,7 @@ use native.Mathlib.Omega.{arith}
 use borrow.Author.Tests.{leb-true, le-leb, eqb-true, eq-eqb, not-true, not-false}
 use lib.Dec.{leb, eqb}
 use lib.ListN.{length, getD}
-use Rattle.exports.specs.Rules.{same, every, pairwise}
+use Rattle.exports.specs.Rules.{same, every}
 
 -- ## One test
 
@@ -79,25 +79,3 @@ module _ {A : Type 0} (z : A) (p : A → Bool) (P : A → Type 0) (iff : (x : A)
 
   pub every-iff : (xs : List A) → (every p xs ≡ true) ↔ ((i : ℕ) → i < length xs → P (getD xs i z))
   every-iff xs = (every-to xs, every-from xs)
-
--- ## Every two elements
-
-module _ {A : Type 0} (z : A) (p : A → A → Bool) (P : A → A → Type 0) (iff : (x y : A) → (p x y ≡ true) ↔ P x y) where
-  pairs-to : (xs : List A) → pairwise p xs ≡ true → (i j : ℕ) → i < j → j < length xs → P (getD xs i z) (getD xs j z)
-  pairs-to [] e i j h l = absurd (omega arith)
-  pairs-to (x ∷ xs) e i zero h l = absurd (omega arith)
-  pairs-to (x ∷ xs) e zero (suc j) h l =
-      every-iff z (p x) (P x) (iff x) xs .0 (and-eq-true-iff (every (p x) xs) (pairwise p xs) .0 e .0) j (le-of-suc-le-suc l)
-  pairs-to (x ∷ xs) e (suc i) (suc j) h l =
-      pairs-to xs (and-eq-true-iff (every (p x) xs) (pairwise p xs) .0 e .1) i j (le-of-suc-le-suc h) (le-of-suc-le-suc l)
-
-  pairs-from : (xs : List A) → ((i j : ℕ) → i < j → j < length xs → P (getD xs i z) (getD xs j z)) → pairwise p xs ≡ true
-  pairs-from [] h = refl
-  pairs-from (x ∷ xs) h =
-      and-eq-true-iff (every (p x) xs) (pairwise p xs) .1 (
-        every-iff z (p x) (P x) (iff x) xs .1 (λ j l. h 0 (suc j) (omega arith) (suc-le-suc l)),
-        pairs-from xs (λ i j k l. h (suc i) (suc j) (suc-le-suc k) (suc-le-suc l)),
-      )
-
-  pub pairwise-iff : (xs : List A) → (pairwise p xs ≡ true) ↔ ((i j : ℕ) → i < j → j < length xs → P (getD xs i z) (getD xs j z))
-  pairwise-iff xs = (pairs-to xs, pairs-from xs)

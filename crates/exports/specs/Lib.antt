@@ -1,4 +1,3 @@
--- What a reader of this crate must believe: the table, its rules, the look-up.
+-- What a reader of this crate must believe: the devices of a table, and the rules of one device and of two.
 pub mod Devices
 pub mod Rules
-pub mod Lookup

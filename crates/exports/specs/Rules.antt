@@ -1,5 +1,5 @@
--- The rules that an export table must keep (01, "Open"), as tests that compute, and the same rules with quantifiers.
--- proofs/Good.antt shows that the two agree.
+-- The rules that the devices of an export table must keep (01, "Open"), one device and two, as tests that compute, and the
+-- same rules with quantifiers. proofs/Good.antt shows that the two agree.
 use Prim.Native.Nat.{ℕ, suc, _<_, _≤_}
 use mathlib.Core.Path.{_≡_}
 use mathlib.Core.Bool.{Bool, true, false, not, cond, _&&_, _||_}
@@ -7,8 +7,7 @@ use mathlib.Core.List.{List, [], _∷_}
 use lib.Dec.{eqb, leb, ltb}
 use lib.ListN.{length, drop, getD}
 use Rattle.exports.specs.declared.device.Device.{Device}
-use Rattle.exports.specs.declared.device.Table.{Table}
-use Rattle.exports.specs.Devices.{MAX-DEVICES, MAX-INTERFACES, noDevice, devicesOf}
+use Rattle.exports.specs.Devices.{MAX-INTERFACES}
 
 abbrev pub MAX-BUSNUM : ℕ
 MAX-BUSNUM = 65535
@@ -66,20 +65,6 @@ clash d e = same (d .busid) (e .busid) || sameNumbers d e
 abbrev pub apart : Device → Device → Bool
 apart d e = not (clash d e)
 
--- ## The table
-
--- Each element and each later one, not only the next.
-abbrev pub pairwise : {A : Type 0} → (A → A → Bool) → List A → Bool
-pairwise p [] = true
-pairwise p (x ∷ xs) = every (p x) xs && pairwise p xs
-
-abbrev pub distinct : List Device → Bool
-distinct ds = pairwise apart ds
-
--- "At most 16 devices" is a rule on the count itself, which nothing cuts down before. What stands past it is free.
-unfoldable pub goodTable : Table → Bool
-goodTable t = leb (t .count) MAX-DEVICES && every goodDevice (devicesOf t) && distinct (devicesOf t)
-
 -- ## The same rules with quantifiers
 
 pub record Text (bytes : List ℕ) : Type 0 where
@@ -99,17 +84,3 @@ pub record DeviceRules (d : Device) : Type 0 where
   pub busnum : (1 ≤ d .busnum) × (d .busnum ≤ MAX-BUSNUM)
   pub devnum : (1 ≤ d .devnum) × (d .devnum ≤ MAX-DEVNUM)
   pub interfaces : d .bNumInterfaces ≤ MAX-INTERFACES
-
--- How many devices a table has, and which one stands at a place.
-abbrev pub deviceCount : Table → ℕ
-deviceCount t = length (devicesOf t)
-
-abbrev pub deviceAt : Table → ℕ → Device
-deviceAt t i = getD (devicesOf t) i noDevice
-
-pub record Rules (t : Table) : Type 0 where
-  pub few : t .count ≤ MAX-DEVICES
-  pub each : (i : ℕ) → i < deviceCount t → DeviceRules (deviceAt t i)
-  pub busids : (i j : ℕ) → i < j → j < deviceCount t → deviceAt t i .busid ≡ deviceAt t j .busid → ⊥
-  pub numbers : (i j : ℕ) → i < j → j < deviceCount t
-      → (deviceAt t i .busnum ≡ deviceAt t j .busnum) × (deviceAt t i .devnum ≡ deviceAt t j .devnum) → ⊥

@@ -1,5 +1,3 @@
-// The export table: the devices that the box offers, the rules that a table must keep, and the look-up of a device by its
-// busid. What each is stands in specs/.
+// What the box exports: devices, the table of them, and the rules of one device and of two. What each is stands in specs/.
 pub mod device;
-pub mod lookup;
 pub mod rules;

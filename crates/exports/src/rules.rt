@@ -1,14 +1,10 @@
-// Whether a table keeps the rules of an export table.
+// The rules of one device and of two, which the devices of an export table keep.
 use crate::device::Device;
-use crate::device::MAX_DEVICES;
 use crate::device::MAX_INTERFACES;
-use crate::device::Table;
 use wire::codes::BUSID_LEN;
 ghost use mathlib.Core.Path.{_≡_};
-ghost use Prim.Native.Nat.{_≤_};
-ghost use lib.ListN.{take, drop};
-ghost use Rattle.exports.specs.Devices.{MAX-DEVICES};
-ghost use Rattle.exports.specs.Rules.{firstZero, zeros, text, within, goodDevice, same, sameNumbers, clash, apart, every, distinct, goodTable};
+ghost use lib.ListN.{drop};
+ghost use Rattle.exports.specs.Rules.{firstZero, zeros, text, within, goodDevice, same, sameNumbers, clash};
 
 pub const MAX_BUSNUM: u32 = 65_535;
 
@@ -66,7 +62,8 @@ fn in_range(low: u32, high: u32, x: u32) -> bool
     x <= high
 }
 
-fn good_device(d: Device) -> bool
+// Whether a device keeps every rule for one.
+pub fn good_device(d: Device) -> bool
     ensures { λ r. ⌜ r ≡ goodDevice d ⌝ }
 {
     let path = d.path;
@@ -108,7 +105,8 @@ fn same_numbers(a: Device, b: Device) -> bool
     a.devnum == b.devnum
 }
 
-fn clash(a: Device, b: Device) -> bool
+// Whether two devices have one busid, or one busnum and devnum.
+pub fn clash(a: Device, b: Device) -> bool
     ensures { λ r. ⌜ r ≡ clash a b ⌝ }
 {
     let x = a.busid;
@@ -117,67 +115,4 @@ fn clash(a: Device, b: Device) -> bool
         return true;
     }
     same_numbers(a, b)
-}
-
-fn all_good(devices: [Device; MAX_DEVICES], n: usize) -> bool
-    requires { ⌜ n ≤ MAX-DEVICES ⌝ }
-    ensures { λ r. ⌜ r ≡ every goodDevice (take n devices) ⌝ }
-{
-    let mut i = 0;
-    while i < n {
-        let d = devices[i];
-        if !good_device(d) {
-            return false;
-        }
-        i += 1;
-    }
-    true
-}
-
-// A device clashes with none of the devices from a place on.
-fn clashes_with_none(d: Device, devices: [Device; MAX_DEVICES], from: usize, n: usize) -> bool
-    requires { ⌜ n ≤ MAX-DEVICES ⌝ }
-    ensures { λ r. ⌜ r ≡ every (apart d) (drop from (take n devices)) ⌝ }
-{
-    let mut j = from;
-    while j < n {
-        let e = devices[j];
-        if clash(d, e) {
-            return false;
-        }
-        j += 1;
-    }
-    true
-}
-
-fn all_distinct(devices: [Device; MAX_DEVICES], n: usize) -> bool
-    requires { ⌜ n ≤ MAX-DEVICES ⌝ }
-    ensures { λ r. ⌜ r ≡ distinct (take n devices) ⌝ }
-{
-    let mut i = 0;
-    while i < n {
-        let d = devices[i];
-        i += 1;
-        if !clashes_with_none(d, devices, i, n) {
-            return false;
-        }
-    }
-    true
-}
-
-impl Table {
-    // Whether the table keeps every rule.
-    pub fn is_good(self) -> bool
-        ensures { λ r. ⌜ r ≡ goodTable self ⌝ }
-    {
-        let n = self.count;
-        if MAX_DEVICES < n {
-            return false;
-        }
-        let devices = self.devices;
-        if !all_good(devices, n) {
-            return false;
-        }
-        all_distinct(devices, n)
-    }
 }

@@ -1,15 +1,15 @@
 use Rattle.exports.specs.Devices.{MAX-DEVICES, noDevice}
 use borrow.Author.Needs.{needs}
 use Prim.Native.Nat.{_-_}
 use native.Mathlib.Omega.{arith}
 use mathlib.Core.Path.{_≡_, refl, sym, _∙_}
 use mathlib.Core.Bool.{true, false}
 use lib.ListN.{length, take, drop, getD}
 use Rattle.exports.specs.Rules.{every, goodDevice}
 use Rattle.exports.proofs.Walks.{next-of, over-of}
 use Rattle.exports.proofs.Tests.{said-no, said-yes}
-use Rattle.exports.proofs.rules.all_good.Statement.{statement}
-use Rattle.exports.proofs.rules.all_good.Tie as tie
+use Rattle.tables.proofs.all_good.Statement.{statement}
+use Rattle.tables.proofs.all_good.Tie as tie
 
 abbrev Inv-loop : tie.InvT-loop
 Inv-loop n devices i₀ i = every goodDevice (take n devices) ≡ every goodDevice (drop i (take n devices))

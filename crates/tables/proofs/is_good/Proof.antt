@@ -1,9 +1,9 @@
 use borrow.Author.Tests.{le-leb, lt-leb}
 use borrow.Author.Needs.{needs}
-use Rattle.exports.specs.Rules.{goodTable}
+use Rattle.tables.specs.Tables.{goodTable}
 use Rattle.exports.proofs.Tests.{said-no, said-yes}
-use Rattle.exports.proofs.device.Table.is_good.Statement.{statement}
-use Rattle.exports.proofs.device.Table.is_good.Tie as tie
+use Rattle.tables.proofs.is_good.Statement.{statement}
+use Rattle.tables.proofs.is_good.Tie as tie
 
 returns : tie.Need-returns
 unfolding goodTable

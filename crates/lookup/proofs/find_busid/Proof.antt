@@ -9,11 +9,11 @@ use mathlib.Core.Bool.{true, false}
 use mathlib.Core.List.{_∷_}
 use lib.ListN.{length, take, drop, getD}
 use Rattle.wire.specs.Codes.{BUSID-LEN}
 use Rattle.exports.specs.Rules.{same}
-use Rattle.exports.specs.Lookup.{findFrom, findBusid}
+use Rattle.lookup.specs.Lookup.{findFrom, findBusid}
 use Rattle.exports.proofs.Walks.{next-of, over-of, same-next, same-over}
-use Rattle.exports.proofs.lookup.find_busid.Statement.{statement}
-use Rattle.exports.proofs.lookup.find_busid.Tie as tie
+use Rattle.lookup.proofs.find_busid.Statement.{statement}
+use Rattle.lookup.proofs.find_busid.Tie as tie
 
 abbrev Inv-loop : tie.InvT-loop
 Inv-loop count devices busid i₀ id j₀ i j = (i ≡ i₀) × (same id busid ≡ same (drop j id) (drop j busid))

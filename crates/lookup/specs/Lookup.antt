@@ -1,16 +1,16 @@
 -- The look-up of a device by its busid (01, "Bytes on the wire"): "the first device whose 32 busid bytes all match".
--- proofs/Found.antt says the same with quantifiers.
+-- proofs/First.antt says the same with quantifiers.
 use Rattle.exports.specs.Devices.{devicesOf, noDevice}
 use Prim.Native.Nat.{ℕ, suc, _<_}
 use mathlib.Core.Path.{_≡_}
 use mathlib.Core.Bool.{cond}
 use mathlib.Core.List.{List, [], _∷_}
 use lib.ListN.{length, getD}
 use Rattle.exports.specs.declared.device.Device.{Device}
 use Rattle.exports.specs.declared.device.Table.{Table}
-use Rattle.exports.specs.declared.lookup.Found.{Found}
-use Rattle.exports.specs.declared.lookup.Found.the-variants.{At, Nothing}
+use Rattle.lookup.specs.declared.Found.{Found}
+use Rattle.lookup.specs.declared.Found.the-variants.{At, Nothing}
 use Rattle.exports.specs.Rules.{same}
 
 -- The place of the first device whose busid bytes all match, where the devices stand from place i on.
 abbrev pub findFrom : ℕ → List ℕ → List Device → Found

@@ -1,14 +1,14 @@
 use Rattle.exports.specs.Devices.{MAX-DEVICES, noDevice}
 use borrow.Author.Needs.{needs}
 use Prim.Native.Nat.{_-_}
 use native.Mathlib.Omega.{arith}
 use mathlib.Core.Path.{_≡_, refl, sym, _∙_}
 use mathlib.Core.Bool.{true, false}
 use lib.ListN.{length, take, drop, getD}
 use Rattle.exports.specs.Rules.{every, apart, clash}
 use Rattle.exports.proofs.Walks.{next-of, over-of}
-use Rattle.exports.proofs.rules.clashes_with_none.Statement.{statement}
-use Rattle.exports.proofs.rules.clashes_with_none.Tie as tie
+use Rattle.tables.proofs.clashes_with_none.Statement.{statement}
+use Rattle.tables.proofs.clashes_with_none.Tie as tie
 
 abbrev Inv-loop : tie.InvT-loop
 Inv-loop d from n devices j₀ j = every (apart d) (drop from (take n devices)) ≡ every (apart d) (drop j (take n devices))

@@ -1,11 +1,11 @@
-// The look-up of a device by its busid.
-use crate::device::Device;
-use crate::device::MAX_DEVICES;
-use crate::device::Table;
+// The look-up of a device by its busid. What it is stands in specs/.
+use exports::device::Device;
+use exports::device::MAX_DEVICES;
+use exports::device::Table;
 use wire::codes::BUSID_LEN;
 ghost use mathlib.Core.Path.{_≡_};
 ghost use lib.ListN.{take};
-ghost use Rattle.exports.specs.Lookup.{findBusid, findIn};
+ghost use Rattle.lookup.specs.Lookup.{findBusid, findIn};
 
 // Where a device stands in a table, if it does.
 pub enum Found {
@@ -46,13 +46,11 @@ fn find_busid(devices: [Device; MAX_DEVICES], count: usize, busid: [u8; BUSID_LE
     Found::At(found)
 }
 
-impl Table {
-    // The first device that has the busid, if one has it. A count above MAX_DEVICES finds among all that there are.
-    pub fn find(self, busid: [u8; BUSID_LEN]) -> Found
-        ensures { λ r. ⌜ r ≡ findIn self busid ⌝ }
-    {
-        let devices = self.devices;
-        let count = self.count;
-        find_busid(devices, count, busid)
-    }
+// The first device of the table that has the busid, if one has it. A count above MAX_DEVICES finds among all that there are.
+pub fn find(table: Table, busid: [u8; BUSID_LEN]) -> Found
+    ensures { λ r. ⌜ r ≡ findIn table busid ⌝ }
+{
+    let devices = table.devices;
+    let count = table.count;
+    find_busid(devices, count, busid)
 }

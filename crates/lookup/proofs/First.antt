@@ -8,12 +8,12 @@ use mathlib.Core.List.{List, [], _∷_}
 use native.Mathlib.Nat.{le-of-suc-le-suc}
 use native.Mathlib.Omega.{arith}
 use lib.ListN.{length, getD}
 use Rattle.exports.specs.declared.device.Device.{Device}
 use Rattle.exports.specs.declared.device.Table.{Table}
-use Rattle.exports.specs.declared.lookup.Found.the-variants.{At, Nothing}
+use Rattle.lookup.specs.declared.Found.the-variants.{At, Nothing}
 use Rattle.exports.specs.Rules.{same}
-use Rattle.exports.specs.Lookup.{findFrom, findBusid, findIn, First, None}
+use Rattle.lookup.specs.Lookup.{findFrom, findBusid, findIn, First, None}
 use Rattle.exports.proofs.Tests.{refutes, fails, same-iff}
 
 -- what holds at 0 and at each place above it, up to n
 up-to : (n : ℕ) (P : ℕ → Type 0) → P 0 → ((j : ℕ) → j < n → P (suc j)) → (j : ℕ) → j < suc n → P j

@@ -1,0 +1,2 @@
+-- The theorem of the look-up.
+pub mod First

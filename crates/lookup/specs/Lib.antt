@@ -1,0 +1,2 @@
+-- What a reader of this crate must believe: the look-up of a device.
+pub mod Lookup

@@ -1,0 +1,2 @@
+-- The theorem of the table's rules.
+pub mod Good
