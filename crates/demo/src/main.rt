@@ -81,14 +81,14 @@ fn wide(byte: u8) -> u64 {
 
 fn show_listing(table: Table) {
     let mut reply = [0u8; REPLY];
-    let n = replies::list_reply(table, &mut reply);
+    let n = listing::list_reply(table, &mut reply);
     io::write_all(STDOUT_FILENO, b"list reply\n");
     print_bytes(first(&reply, n));
 }
 
 fn show_import(d: Device) {
     let mut reply = [0u8; REPLY];
-    let n = replies::import_reply(d, &mut reply);
+    let n = importing::import_reply(d, &mut reply);
     io::write_all(STDOUT_FILENO, b"import reply\n");
     print_bytes(first(&reply, n));
 }

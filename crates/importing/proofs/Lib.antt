@@ -1,0 +1,2 @@
+-- The laws of the import reply.
+pub mod Offsets

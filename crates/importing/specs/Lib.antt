@@ -1,0 +1,2 @@
+-- What a reader of this crate must believe: the reply to an import request.
+pub mod Imports

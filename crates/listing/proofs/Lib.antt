@@ -1,0 +1,3 @@
+-- The laws of the list reply.
+pub mod Lists
+pub mod Offsets

@@ -1,2 +1,0 @@
--- What a reader of this crate must believe: the replies that show devices.
-pub mod Replies
