@@ -1,0 +1,16 @@
+-- The starred exchanges of 01, all under one proof: the definitions compute to what must be seen.
+use mathlib.Core.Path.{_≡_, refl}
+use mathlib.Core.List.{map}
+use Rattle.exports.specs.Rules.{text, goodDevice}
+use Rattle.tables.specs.Tables.{goodTable}
+use Rattle.records.specs.Records.{deviceRecord}
+use Rattle.importing.specs.Imports.{importReply, importRefusal}
+use Rattle.listing.specs.Lists.{listed, listReply}
+use Rattle.session.specs.Tests.{decide, pick}
+use Rattle.session.specs.Machine.{feed}
+use Rattle.session.specs.Model.{urbOf, bodyOf, submitted, submitting, headed, message, requested, lookedUp, request, judge, replyTo, grow, put, tell, feedOf, completeOf, openOf}
+use Rattle.session.specs.Exchanges.{exchanges, seenOf, said}
+
+pub known : map seenOf exchanges ≡ map said exchanges
+unfolding text goodDevice goodTable deviceRecord listed listReply importReply importRefusal decide pick feed urbOf bodyOf submitted submitting headed message requested lookedUp request judge replyTo grow put tell feedOf completeOf openOf
+known = refl
