@@ -11,7 +11,7 @@ use lib.Seq.{take-at, drop-at, take-all, take-suc-set, drop-set-lt, drop-drop, l
 use borrow.Author.Tests.{ltb-true, ltb-false, lt-ltb, le-ltb}
 use Rattle.pending.specs.declared.urb.Urb.{Urb}
 use Rattle.pending.specs.declared.list.Pending.{Pending}
-use Rattle.pending.specs.Pending.{MAX-PENDING, blank, ticketOf, tickets, listOf, removeAt, emptyPending, more, appended, less, removed, listing, Sound, Whole}
+use Rattle.pending.specs.Pending.{MAX-PENDING, blank, ticketOf, tickets, listOf, removeAt, emptyPending, longer, appended, shorter, removed, listing, Sound, Whole}
 
 -- one branch or the other
 split : {A : Type 0} (P : A → Type 0) (x y : A) (t : Bool) → (t ≡ true → P x) → (t ≡ false → P y) → P (cond t x y)
@@ -45,13 +45,13 @@ module _ (p : Pending) (u : Urb) where
 
   pub append-whole : Whole p → Whole (appended p u)
   unfolding appended
-  append-whole w = split Whole (more p u) p (ltb (p .count) MAX-PENDING) (λ e. length-set (p .urbs) (p .count) u ∙ w) (λ e. w)
+  append-whole w = split Whole (longer p u) p (ltb (p .count) MAX-PENDING) (λ e. length-set (p .urbs) (p .count) u ∙ w) (λ e. w)
 
   pub append-sound : Sound p → Sound (appended p u)
   unfolding appended
-  append-sound s = split Sound (more p u) p (ltb (p .count) MAX-PENDING) (λ e. one-more (ltb-true (p .count) MAX-PENDING e)) (λ e. s)
+  append-sound s = split Sound (longer p u) p (ltb (p .count) MAX-PENDING) (λ e. one-more (ltb-true (p .count) MAX-PENDING e)) (λ e. s)
     where
-      one-more : p .count < MAX-PENDING → Sound (more p u)
+      one-more : p .count < MAX-PENDING → Sound (longer p u)
       one-more h =
           let n : MAX-PENDING - p .count ≡ suc (MAX-PENDING - (p .count + 1)) = omega arith in
           record {
@@ -72,7 +72,7 @@ module _ (p : Pending) (i : ℕ) where
   pub remove-view : listOf (removed p i) ≡ removeAt i (listOf p)
   unfolding removed
   remove-view =
-      split (λ (q : Pending). listOf q ≡ removeAt i (listOf p)) (less p i) p (ltb i (length (listOf p)))
+      split (λ (q : Pending). listOf q ≡ removeAt i (listOf p)) (shorter p i) p (ltb i (length (listOf p)))
       (λ e. take-at (removeAt i (listOf p)) (blank ∷ drop (p .count) (p .urbs)) (length (listOf p) - 1) (rest-length (ltb-true i (length (listOf p)) e)))
       (λ e.
       let h : length (listOf p) ≤ i = ltb-false i (length (listOf p)) e in
@@ -81,7 +81,7 @@ module _ (p : Pending) (i : ℕ) where
   pub remove-whole : Whole p → Whole (removed p i)
   unfolding removed
   remove-whole w =
-      split Whole (less p i) p (ltb i (length (listOf p)))
+      split Whole (shorter p i) p (ltb i (length (listOf p)))
       (λ e.
       let h : i < length (listOf p) = ltb-true i (length (listOf p)) e in
       rw (length-append, rest-length h, length-drop) (omega (arith, length-take (p .count) (p .urbs))))
@@ -89,9 +89,9 @@ module _ (p : Pending) (i : ℕ) where
 
   pub remove-sound : Whole p → Sound p → Sound (removed p i)
   unfolding removed
-  remove-sound w s = split Sound (less p i) p (ltb i (length (listOf p))) (λ e. one-less (ltb-true i (length (listOf p)) e)) (λ e. s)
+  remove-sound w s = split Sound (shorter p i) p (ltb i (length (listOf p))) (λ e. one-less (ltb-true i (length (listOf p)) e)) (λ e. s)
     where
-      one-less : i < length (listOf p) → Sound (less p i)
+      one-less : i < length (listOf p) → Sound (shorter p i)
       one-less h =
           let n : length (listOf p) ≡ p .count = view-length p w (s .fits) in
           let m : suc (MAX-PENDING - p .count) ≡ MAX-PENDING - (length (listOf p) - 1) = omega (arith, s .fits) in

@@ -1,5 +1,5 @@
 -- The list without a ticket, and the list without the URB at a place.
-use Prim.Native.Nat.{ℕ, zero, suc, _≤_}
+use Prim.Native.Nat.{ℕ, zero, suc, _<_, _≤_}
 use mathlib.Core.Path.{_≡_, refl, sym, ap, _∙_}
 use mathlib.Core.Logic.{_↔_, ⊎-elim}
 use mathlib.Core.Bool.{Bool, true, false, cond}
@@ -18,6 +18,10 @@ use Rattle.pending.proofs.Finding.{behind, place-first}
 rising-behind : (x : ℕ) (xs : List ℕ) → Above x xs → Rising xs
 rising-behind x [] h = tt
 rising-behind x (y ∷ ys) h = h .1
+
+above-lower : (s x : ℕ) (xs : List ℕ) → s ≤ x → Above x xs → Above s xs
+above-lower s x [] h a = tt
+above-lower s x (y ∷ ys) h a = (omega (arith, a .0), a .1)
 
 module _ (t : ℕ) where
   above-absent : (s : ℕ) (us : List Urb) → t ≤ s → Above s (tickets us) → without t us ≡ us
@@ -77,3 +81,31 @@ module _ (t : ℕ) where
         λ m. ⊎-elim List·Memᴰ·head (λ n. List·Memᴰ·tail (r .0 n)) (List·Memᴰ·cases-cons m),
         λ m. ⊎-elim List·Memᴰ·head (λ n. List·Memᴰ·tail (r .1 n)) (List·Memᴰ·cases-cons m),
       )
+
+  -- ## The tickets still rise
+
+  above-without : (s : ℕ) (us : List Urb) → Above s (tickets us) → Above s (tickets (without t us))
+  above-without s [] a = tt
+  above-without s (u ∷ us) a = at (eqb (ticketOf u) t) (above-without (ticketOf u) us (a .1))
+    where
+      at : (b : Bool) → Above (ticketOf u) (tickets (without t us)) → Above s (tickets (cond b (without t us) (u ∷ without t us)))
+      at true r = above-lower s (ticketOf u) (tickets (without t us)) (omega (arith, a .0)) r
+      at false r = (a .0, r)
+
+  pub rising-without : (us : List Urb) → Rising (tickets us) → Rising (tickets (without t us))
+  rising-without [] r = tt
+  rising-without (u ∷ us) r = at (eqb (ticketOf u) t) (above-without (ticketOf u) us r)
+    where
+      at : (b : Bool) → Above (ticketOf u) (tickets (without t us)) → Rising (tickets (cond b (without t us) (u ∷ without t us)))
+      at true a = rising-behind (ticketOf u) (tickets (without t us)) a
+      at false a = a
+
+above-append : (s : ℕ) (us : List Urb) (u : Urb) → Above s (tickets us) → s < ticketOf u → ((v : Urb) → List·Memᴰ v us → ticketOf v < ticketOf u)
+    → Above s (tickets (us ++ (u ∷ [])))
+above-append s [] u a l h = (l, tt)
+above-append s (v ∷ us) u a l h = (a .0, above-append (ticketOf v) us u (a .1) (h v (List·Memᴰ·head refl)) (λ w m. h w (List·Memᴰ·tail m)))
+
+pub rising-append : (us : List Urb) (u : Urb) → Rising (tickets us) → ((v : Urb) → List·Memᴰ v us → ticketOf v < ticketOf u)
+    → Rising (tickets (us ++ (u ∷ [])))
+rising-append [] u r h = tt
+rising-append (v ∷ us) u r h = above-append (ticketOf v) us u r (h v (List·Memᴰ·head refl)) (λ w m. h w (List·Memᴰ·tail m))

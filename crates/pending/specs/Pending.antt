@@ -78,20 +78,20 @@ abbrev pub emptyPending : Pending
 emptyPending = record { urbs = replicate MAX-PENDING blank; count = 0 }
 
 -- One more at the end.
-abbrev pub more : Pending → Urb → Pending
-more p u = record { urbs = set (p .urbs) (p .count) u; count = p .count + 1 }
+abbrev pub longer : Pending → Urb → Pending
+longer p u = record { urbs = set (p .urbs) (p .count) u; count = p .count + 1 }
 
 -- A full list stays as it is.
 unfoldable pub appended : Pending → Urb → Pending
-appended p u = cond (ltb (p .count) MAX-PENDING) (more p u) p
+appended p u = cond (ltb (p .count) MAX-PENDING) (longer p u) p
 
 -- The one at a place taken out, the place that this frees blank, and what stands behind the list as it was.
-abbrev pub less : Pending → ℕ → Pending
-less p i = record { urbs = removeAt i (listOf p) ++ (blank ∷ drop (p .count) (p .urbs)); count = length (listOf p) - 1 }
+abbrev pub shorter : Pending → ℕ → Pending
+shorter p i = record { urbs = removeAt i (listOf p) ++ (blank ∷ drop (p .count) (p .urbs)); count = length (listOf p) - 1 }
 
 -- Where there is none at the place, the list stays as it is.
 unfoldable pub removed : Pending → ℕ → Pending
-removed p i = cond (ltb i (length (listOf p))) (less p i) p
+removed p i = cond (ltb i (length (listOf p))) (shorter p i) p
 
 -- The tickets of a list, and zeros behind them.
 abbrev pub padded : List ℕ → List ℕ
