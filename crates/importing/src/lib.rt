@@ -6,12 +6,18 @@ use records::record::write_record;
 use wire::codes::OP_LEN;
 use wire::codes::OP_REP_IMPORT;
 use wire::writing::write;
+ghost use mathlib.Core.Path.{_≡_};
+ghost use Prim.Native.Nat.{_+_};
+ghost use lib.ListN.{length};
+ghost use Rattle.wire.specs.Codes.{OP-LEN};
+ghost use Rattle.records.specs.Records.{DEVICE-LEN};
 ghost use Rattle.wire.specs.Writing.{Wrote};
 ghost use Rattle.importing.specs.Imports.{importReply, importRefusal};
 
 // Writes the reply to an import of the device, if the buffer has room, and answers how many bytes it wrote.
 pub fn import_reply(d: Device, reply: &mut [u8]) -> usize
     ensures { λ n. ⌜ Wrote (importReply d) (now (reply .entry)) (now (reply .exit)) n ⌝ }
+    ensures { λ _. ⌜ length (importReply d) ≡ OP-LEN + DEVICE-LEN ⌝ }
 {
     if reply.len() < OP_LEN + DEVICE_LEN {
         return 0;

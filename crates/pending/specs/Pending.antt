@@ -56,6 +56,11 @@ abbrev pub without : ℕ → List Urb → List Urb
 without t [] = []
 without t (u ∷ us) = cond (eqb (ticketOf u) t) (without t us) (u ∷ without t us)
 
+-- All but the first with a ticket.
+abbrev pub withoutFirst : ℕ → List Urb → List Urb
+withoutFirst t [] = []
+withoutFirst t (u ∷ us) = cond (eqb (ticketOf u) t) us (u ∷ withoutFirst t us)
+
 -- The place of the first that has a key, where the URBs stand from place i on.
 abbrev pub placeFrom : ℕ → (Urb → ℕ) → ℕ → List Urb → Place
 placeFrom i key k [] = Nothing

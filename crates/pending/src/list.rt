@@ -135,7 +135,8 @@ impl Pending {
         }
     }
 
-    fn len(self) -> usize
+    // How many there are.
+    pub fn len(self) -> usize
         ensures { λ r. ⌜ (r ≡ length (listOf self)) × (r ≤ MAX-PENDING) ⌝ }
     {
         let count = self.count;

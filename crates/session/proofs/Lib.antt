@@ -1,13 +1,9 @@
--- The proofs of the claims about the session.
-pub mod Facts
-pub mod Match
-pub mod Tables
-pub mod Steps
-pub mod Judged
-pub mod Runs
-pub mod Corollaries
-pub mod Cutting
-pub mod Growth
-pub mod Cut
-pub mod Untouched
-pub mod Known
+-- Why the code is what the definitions say.
+pub mod Fits
+pub mod Saying
+pub mod Stages
+pub mod Moments
+pub mod Pieces
+pub mod Acts
+pub mod Run
+pub mod Demands

@@ -1,11 +1,4 @@
--- What a reader of this crate must believe, in the order of 01: the session, its acts, the book, the claims.
-pub mod Limits
-pub mod Tests
-pub mod Machine
-pub mod Model
-pub mod Rows
-pub mod Book
-pub mod Claims
-pub mod Corollaries
-pub mod Exchanges
-pub mod Cut
+-- What a reader of this crate must believe: how the code's session and answers stand for those of the definitions.
+pub mod Views
+pub mod Run
+pub mod Demands

@@ -27,7 +27,7 @@ add-if1 c = search needs
 returns : tie.Need-returns
 returns c =
     let s = c .before .before in
-    wrote-none (importReply (s .args .d)) (s .args .reply .now) (rw (import-length (s .args .d) (shaped s)) (c .if1 .taken))
+    (wrote-none (importReply (s .args .d)) (s .args .reply .now) (rw (import-length (s .args .d) (shaped s)) (c .if1 .taken)), import-length (s .args .d) (shaped s))
 
 reply-head-requires : tie.Need-reply-head-requires
 reply-head-requires c κs = search needs
@@ -70,7 +70,7 @@ returns-2 c =
     let l1 : length (k1 .write .last .0) ≡ length D = k1 .write .kept .0 in
     let e1 = wrote-all H D (k1 .write .last .0) (k1 .write .result) (omega arith) (rw (n .reply-head .ensures) at (k1 .write .ensures)) in
     let e2 = written-next D (k1 .write .last .0) H (deviceRecord d) (k2 .write-record .last .0) OP-LEN _ (k2 .write-record .result) refl refl e1 (omega (arith, record-length d (shaped s))) (k2 .write-record .ensures) in
-    wrote-over (importReply d) D _ (OP-LEN + DEVICE-LEN) (omega (arith, import-length d (shaped s))) e2 (sym (import-length d (shaped s)))
+    (wrote-over (importReply d) D _ (OP-LEN + DEVICE-LEN) (omega (arith, import-length d (shaped s))) e2 (sym (import-length d (shaped s))), import-length d (shaped s))
 
 pub import-reply-spec : {M : Type 1} → statement M
 import-reply-spec =

@@ -1,0 +1,2 @@
+-- The exchanges, computed.
+pub mod Known

@@ -1,0 +1,2 @@
+-- What a reader of this crate must believe: the exchanges, and what must be seen of each.
+pub mod Exchanges

@@ -1,0 +1,11 @@
+-- The proofs of the claims about the session.
+pub mod Facts
+pub mod Tables
+pub mod Steps
+pub mod Judged
+pub mod Runs
+pub mod Corollaries
+pub mod Cutting
+pub mod Growth
+pub mod Cut
+pub mod Untouched

@@ -1,0 +1,31 @@
+use Rattle.session.proofs.Saying.{ret-submit-length}
+use Rattle.messages.specs.Messages.{retSubmit}
+use Rattle.wire.proofs.Parts.{wrote-all}
+use native.Mathlib.Omega.{arith}
+use mathlib.Core.Path.{_≡_, refl, sym, ap, _∙_}
+use borrow.Author.Needs.{needs}
+use Rattle.session.proofs.carry.write_header.Statement.{statement}
+use Rattle.session.proofs.carry.write_header.Tie as tie
+use Rattle.session.proofs.carry.write_header.Reads as reads
+use Rattle.session.proofs.carry.write_header.Lts as lts
+use Rattle.messages.proofs.reply.write_ret_submit.Reads as write-ret-submit-reads
+
+write-ret-submit-requires : tie.Need-write-ret-submit-requires
+write-ret-submit-requires c κs = search needs
+
+same-length : tie.Need-same-length
+same-length c = search needs
+
+returns : tie.Need-returns
+returns c =
+    let w = c .before .before in
+    let t = w .before .before in
+    let s = t .before .before in
+    let r = s .args .ret in
+    rw (t .if1 .taken) (wrote-all (retSubmit r) (s .args .header .now) _ (w .write-ret-submit .result) (omega (arith, ret-submit-length r, s .pre (t .if1 .taken))) (w .write-ret-submit .ensures))
+
+returns-2 : tie.Need-returns-2
+returns-2 c = rw (c .if1 .left)
+
+pub write-header-spec : {M : Type 1} → statement M
+write-header-spec = tie.close (tie.spec write-ret-submit-requires same-length returns returns-2)

@@ -1,0 +1,72 @@
+use Rattle.session.specs.Views.{viewOf, whole, eventOf, replyBytes}
+use Rattle.model.specs.Cut.{lent}
+use Rattle.wire.proofs.Parts.{wrote-all, wrote-count}
+use native.Mathlib.Omega.{arith}
+use mathlib.Core.Path.{_≡_, refl, sym, ap, _∙_}
+use borrow.Author.Needs.{needs}
+use Rattle.session.proofs.state.Session.feed.Statement.{statement}
+use Rattle.session.proofs.state.Session.feed.Tie as tie
+use Rattle.session.proofs.state.Session.feed.Reads as reads
+use Rattle.session.proofs.state.Session.feed.Lts as lts
+use Rattle.session.proofs.act.plan_feed.Reads as plan-feed-reads
+use Rattle.session.proofs.carry.changed_list.Reads as changed-list-reads
+use Rattle.session.proofs.carry.copy_data.Reads as copy-data-reads
+use Rattle.session.proofs.carry.dropped_tickets.Reads as dropped-tickets-reads
+use Rattle.session.proofs.carry.write_reply.Reads as write-reply-reads
+
+plan-feed-requires : tie.Need-plan-feed-requires
+plan-feed-requires c κs = search needs
+
+changed-list-requires : tie.Need-changed-list-requires
+changed-list-requires c κs = search needs
+
+dropped-tickets-requires : tie.Need-dropped-tickets-requires
+dropped-tickets-requires c κs = search needs
+
+copy-data-requires : tie.Need-copy-data-requires
+copy-data-requires c κs = search needs
+
+write-reply-requires : tie.Need-write-reply-requires
+write-reply-requires c κs = search needs
+
+same-length : tie.Need-same-length
+same-length c = search needs
+
+same-length-2 : tie.Need-same-length-2
+same-length-2 c = search needs
+
+returns : tie.Need-returns
+returns c =
+    let r = c .before .before .before in
+    let d = r .before .before .before .before in
+    let t = d .before .before in
+    let l = t .before in
+    let f = l .before .before .before in
+    let s = f .before .before .before .before .before .before .before in
+    let a = s .args in
+    let q = f .plan-feed .result in
+    let room = f .plan-feed .ensures .takes (r .write-reply .ensures .1) in
+    (λ i.
+    record {
+      event = eventOf (q .event) (q .setup) (t .dropped-tickets .ensures i);
+      setup = q .setup;
+      dropped = t .dropped-tickets .ensures i;
+      used = q .consumed;
+      written = wrote-count (replyBytes (a .self .table) (q .reply)) (a .reply .now) _ (r .write-reply .result) room (r .write-reply .ensures .0) i;
+      buffers = lent (d .copy-data .ensures i) (wrote-all (replyBytes (a .self .table) (q .reply)) (a .reply .now) _ (r .write-reply .result) room (r .write-reply .ensures .0) i);
+      next = viewOf (whole (a .self .table) (q .link) (l .changed-list .ensures i));
+    })
+    ∙ f .plan-feed .ensures .fed (lent (a .work .now) (a .reply .now)) refl refl
+
+pub feed-spec : {M : Type 1} → statement M
+feed-spec =
+    tie.close
+    (tie.spec
+    plan-feed-requires
+    changed-list-requires
+    dropped-tickets-requires
+    copy-data-requires
+    write-reply-requires
+    same-length
+    same-length-2
+    returns)

@@ -1,0 +1,37 @@
+use Rattle.session.proofs.Acts.{open-good, open-bad}
+use Rattle.session.specs.Views.{viewOf}
+use native.Mathlib.Omega.{arith}
+use mathlib.Core.Path.{_≡_, refl, sym, ap, _∙_}
+use borrow.Author.Needs.{needs}
+use Rattle.session.proofs.state.Session.open.Statement.{statement}
+use Rattle.session.proofs.state.Session.open.Tie as tie
+use Rattle.session.proofs.state.Session.open.Reads as reads
+use Rattle.session.proofs.state.Session.open.Lts as lts
+use Rattle.session.proofs.act.fresh_session.Reads as fresh-session-reads
+use Rattle.tables.proofs.is_good.Reads as is-good-reads
+
+is-good-requires : tie.Need-is-good-requires
+is-good-requires c κs = search needs
+
+fresh-session-requires : tie.Need-fresh-session-requires
+fresh-session-requires c κs = search needs
+
+returns : tie.Need-returns
+returns c =
+    let k = c .before .before in
+    let g = open-good (k .before .args .table) (k .is-good .result) (k .is-good .ensures) (c .before .if1 .taken) in
+    (g .0, ap viewOf (c .fresh-session .ensures) ∙ g .1)
+
+fresh-session-requires-2 : tie.Need-fresh-session-requires-2
+fresh-session-requires-2 c κs = search needs
+
+returns-2 : tie.Need-returns-2
+returns-2 c =
+    let k = c .before .before .before in
+    let g = open-bad (k .before .args .table) (k .is-good .result) (k .is-good .ensures) (c .before .before .if1 .left) in
+    (g .0, ap viewOf (c .fresh-session2 .ensures) ∙ g .1)
+
+pub open-spec : {M : Type 1} → statement M
+open-spec =
+    tie.close
+    (tie.spec is-good-requires fresh-session-requires returns fresh-session-requires-2 returns-2)

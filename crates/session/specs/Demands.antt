@@ -1,0 +1,32 @@
+-- The three demands of the mission, each with the claims that make it up. What an act answers, leaves and writes is its contract
+-- in src/act.rt, for every input; the claims here speak of the definitions that those contracts name, and of the code's own runs.
+use Rattle.model.specs.Claims
+use Rattle.model.specs.Corollaries
+use Rattle.model.specs.Cut
+use Rattle.exchanges.specs.Exchanges.{Known}
+use Rattle.session.specs.Run.{CodeRun}
+
+-- "Any bytes from the network and any call from the device side get an answer." No act has a `requires`. A refusal is given
+-- exactly when its row of the table holds and none before it; it changes nothing, and every other answer changes just what it
+-- says.
+abbrev pub Demand1 : Type 0
+Demand1 = Corollaries.OpenIff × Corollaries.RefusedIff × Corollaries.EmptyPiece × Cut.Untouched × Cut.Keeps
+
+-- "A submit is accepted exactly when our rules allow it .. the stream may be cut anywhere". The starred exchanges are computed.
+abbrev pub Demand2 : Type 0
+Demand2 =
+    Corollaries.AcceptIff
+    × Corollaries.AttachedTo
+    × Corollaries.AnsweredStays
+    × Corollaries.Consumption
+    × Cut.Consumes
+    × Cut.Cutting
+    × Cut.CuttingAnswers
+    × Cut.Draining
+    × Cut.WorkFree
+    × Known
+
+-- "For every list of feeds, completions and closings from a fresh session .. the session agrees with the plain book", of the
+-- definitions and of the code's own sessions; and a ticket that is no longer pending never answers anything.
+abbrev pub Demand3 : Type 0
+Demand3 = Claims.Demand3 × CodeRun × Corollaries.LateTicket × Corollaries.EndedTicket × Corollaries.CancelledTicket

@@ -1,0 +1,15 @@
+use Rattle.verdicts.proofs.Deciding.{tests}
+use native.Mathlib.Omega.{arith}
+use Rattle.verdicts.proofs.verdict.short_data.Statement.{statement}
+use Rattle.verdicts.proofs.verdict.short_data.Tie as tie
+use Rattle.verdicts.proofs.verdict.short_data.Reads as reads
+use Rattle.verdicts.proofs.verdict.short_data.Lts as lts
+
+returns : tie.Need-returns
+returns c = search (tests, arith)
+
+returns-2 : tie.Need-returns-2
+returns-2 c = search (tests, arith)
+
+pub short-data-spec : {M : Type 1} → statement M
+short-data-spec = tie.close (tie.spec returns returns-2)
