@@ -1,0 +1,33 @@
+-- A line behind other text, and the fields that have two cases.
+use Prim.Native.Nat.{ℕ}
+use mathlib.Core.Path.{_≡_, refl, ap, _∙_}
+use mathlib.Core.List.{List, [], _∷_, _++_, append-assoc}
+use native.Mathlib.Omega.{arith}
+use lib.ListN.{length}
+use Rattle.session.specs.Views.{removed}
+use Rattle.session.specs.declared.answer.Removed.{Removed}
+use Rattle.session.specs.declared.answer.Removed.the-variants.{Ticket, Nothing}
+use Rattle.lines.specs.Digits.{ascii, decimal, statusText, hexOf}
+use Rattle.lines.specs.Traces.{hexField}
+use Rattle.lines.specs.Lines.{fields, lineOf, line, linesOf}
+
+fields-behind : (T w : List ℕ) (fs : List (List ℕ)) → fields (T ++ w) fs ≡ T ++ fields w fs
+fields-behind T w [] = refl
+fields-behind T w (f ∷ fs) = ap (λ (x : List ℕ). fields x fs) (append-assoc T w (ascii " " ++ f)) ∙ fields-behind T (w ++ (ascii " " ++ f)) fs
+
+pub line-behind : (T w : List ℕ) (fs : List (List ℕ)) → lineOf (T ++ w) fs ≡ T ++ lineOf w fs
+line-behind T w fs = ap (λ (x : List ℕ). x ++ ascii "\n") (fields-behind T w fs) ∙ append-assoc T (fields w fs) (ascii "\n")
+
+-- an unlink's line, whatever it removed
+pub unlink-lines : (seqnum status : ℕ) (r : Removed) → linesOf (removed seqnum status r) ≡ line "unlink" (decimal seqnum ∷ statusText status ∷ [])
+unlink-lines seqnum status (Ticket t) = refl
+unlink-lines seqnum status Nothing = refl
+
+-- bytes as a field
+pub hex-some : (bytes : List ℕ) → (length bytes ≡ 0 → ⊥) → hexField bytes ≡ hexOf bytes
+hex-some [] h = absurd (h refl)
+hex-some (b ∷ bs) h = refl
+
+pub hex-none : (bytes : List ℕ) → length bytes ≡ 0 → hexField bytes ≡ ascii "-"
+hex-none [] h = refl
+hex-none (b ∷ bs) h = absurd (omega arith)

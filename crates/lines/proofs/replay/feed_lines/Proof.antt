@@ -1,0 +1,26 @@
+use mathlib.Core.List.{[]}
+use borrow.Author.Needs.{needs}
+use Rattle.lines.proofs.replay.feed_lines.Statement.{statement}
+use Rattle.lines.proofs.replay.feed_lines.Tie as tie
+use Rattle.lines.proofs.replay.feed_lines.Reads as reads
+use Rattle.lines.proofs.replay.feed_lines.Lts as lts
+use Rattle.lines.proofs.replay.event_text.Reads as event-text-reads
+use Rattle.lines.proofs.text.put.Reads as put-reads
+
+event-text-requires : tie.Need-event-text-requires
+event-text-requires c κs = search needs
+
+put-requires : tie.Need-put-requires
+put-requires c κs = c .before .event-text .ensures [] .size
+
+same-length : tie.Need-same-length
+same-length c = search needs
+
+returns : tie.Need-returns
+returns c =
+    let k = c .before .before in
+    let t = k .before .before in
+    rw (t .event-text .ensures (t .before .before .before .args .a .setup) .text) at (k .put .ensures)
+
+pub feed-lines-spec : {M : Type 1} → statement M
+feed-lines-spec = tie.close (tie.spec event-text-requires put-requires same-length returns)

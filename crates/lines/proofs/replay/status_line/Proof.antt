@@ -1,0 +1,30 @@
+use native.Mathlib.Omega.{arith}
+use borrow.Author.Needs.{needs}
+use Rattle.lines.proofs.replay.status_line.Statement.{statement}
+use Rattle.lines.proofs.replay.status_line.Tie as tie
+use Rattle.lines.proofs.replay.status_line.Reads as reads
+use Rattle.lines.proofs.replay.status_line.Lts as lts
+use Rattle.lines.proofs.text.begun.Reads as begun-reads
+use Rattle.lines.proofs.text.ended.Reads as ended-reads
+use Rattle.lines.proofs.text.with_number.Reads as with-number-reads
+use Rattle.lines.proofs.text.with_status.Reads as with-status-reads
+
+begun-requires : tie.Need-begun-requires
+begun-requires c κs = search needs
+
+with-number-requires : tie.Need-with-number-requires
+with-number-requires c κs = search needs
+
+with-status-requires : tie.Need-with-status-requires
+with-status-requires c κs = search needs
+
+ended-requires : tie.Need-ended-requires
+ended-requires c κs = search needs
+
+returns : tie.Need-returns
+returns c = record { text = rw (c .ended .ensures .text, c .before .with-status .ensures .text, c .before .before .with-number .ensures .text, c .before .before .before .begun .ensures .text); size = omega arith }
+
+pub status-line-spec : {M : Type 1} → statement M
+status-line-spec =
+    tie.close
+    (tie.spec begun-requires with-number-requires with-status-requires ended-requires returns)

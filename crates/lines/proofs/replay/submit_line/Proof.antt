@@ -1,0 +1,38 @@
+use native.Mathlib.Omega.{arith}
+use borrow.Author.Needs.{needs}
+use Rattle.lines.proofs.replay.submit_line.Statement.{statement}
+use Rattle.lines.proofs.replay.submit_line.Tie as tie
+use Rattle.lines.proofs.replay.submit_line.Reads as reads
+use Rattle.lines.proofs.replay.submit_line.Lts as lts
+use Rattle.lines.proofs.text.begun.Reads as begun-reads
+use Rattle.lines.proofs.text.ended.Reads as ended-reads
+use Rattle.lines.proofs.text.with_number.Reads as with-number-reads
+
+slice-aggregate-begun : tie.Need-slice-aggregate-begun
+slice-aggregate-begun c = search needs
+
+begun-requires : tie.Need-begun-requires
+begun-requires c κs = search needs
+
+with-number-requires : tie.Need-with-number-requires
+with-number-requires c κs = search needs
+
+with-number-requires-2 : tie.Need-with-number-requires-2
+with-number-requires-2 c κs = search needs
+
+ended-requires : tie.Need-ended-requires
+ended-requires c κs = search needs
+
+returns : tie.Need-returns
+returns c = record { text = rw (c .ended .ensures .text, c .before .with-number2 .ensures .text, c .before .before .with-number .ensures .text, c .before .before .before .begun .ensures .text); size = omega arith }
+
+pub submit-line-spec : {M : Type 1} → statement M
+submit-line-spec =
+    tie.close
+    (tie.spec
+    slice-aggregate-begun
+    begun-requires
+    with-number-requires
+    with-number-requires-2
+    ended-requires
+    returns)

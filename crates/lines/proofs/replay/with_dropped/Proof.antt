@@ -1,0 +1,35 @@
+use native.Mathlib.Omega.{arith}
+use mathlib.Core.Path.{_≡_, sym, _∙_}
+use lib.ListN.{length, take}
+use lib.Seq.{take-all}
+use Rattle.records.proofs.Records.{unmapped}
+use Rattle.pending.specs.Pending.{MAX-PENDING}
+use borrow.Author.Needs.{needs}
+use Rattle.lines.proofs.replay.with_dropped.Statement.{statement}
+use Rattle.lines.proofs.replay.with_dropped.Tie as tie
+use Rattle.lines.proofs.replay.with_dropped.Reads as reads
+use Rattle.lines.proofs.replay.with_dropped.Lts as lts
+use Rattle.lines.proofs.replay.with_drops.Reads as with-drops-reads
+
+whole : (c : tie.Start) → length (c .args .dropped .tickets) ≡ MAX-PENDING
+whole c = search (unmapped, needs)
+
+with-drops-requires : tie.Need-with-drops-requires
+with-drops-requires c κs = search needs
+
+returns : tie.Need-returns
+returns c =
+    let a = c .before .before .before .args in
+    let l : length (a .dropped .tickets) ≡ MAX-PENDING = whole (c .before .before .before) in
+    let e : take (a .dropped .count) (a .dropped .tickets) ≡ take MAX-PENDING (a .dropped .tickets) = take-all (a .dropped .count) (a .dropped .tickets) (omega arith) ∙ sym (take-all MAX-PENDING (a .dropped .tickets) (omega arith)) in
+    rw e (c .with-drops .ensures)
+
+with-drops-requires-2 : tie.Need-with-drops-requires-2
+with-drops-requires-2 c κs = search needs
+
+returns-2 : tie.Need-returns-2
+returns-2 c = search needs
+
+pub with-dropped-spec : {M : Type 1} → statement M
+with-dropped-spec =
+    tie.close (tie.spec with-drops-requires returns with-drops-requires-2 returns-2)

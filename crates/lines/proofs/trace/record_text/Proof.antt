@@ -1,0 +1,38 @@
+use native.Mathlib.Omega.{arith}
+use borrow.Author.Needs.{needs}
+use Rattle.lines.proofs.trace.record_text.Statement.{statement}
+use Rattle.lines.proofs.trace.record_text.Tie as tie
+use Rattle.lines.proofs.trace.record_text.Reads as reads
+use Rattle.lines.proofs.trace.record_text.Lts as lts
+use Rattle.lines.proofs.text.begun.Reads as begun-reads
+use Rattle.lines.proofs.text.with_number.Reads as with-number-reads
+use Rattle.lines.proofs.trace.with_four.Reads as with-four-reads
+
+slice-aggregate-begun : tie.Need-slice-aggregate-begun
+slice-aggregate-begun c = search needs
+
+begun-requires : tie.Need-begun-requires
+begun-requires c κs = search needs
+
+with-number-requires : tie.Need-with-number-requires
+with-number-requires c κs = search needs
+
+with-four-requires : tie.Need-with-four-requires
+with-four-requires c κs = search needs
+
+with-four-requires-2 : tie.Need-with-four-requires-2
+with-four-requires-2 c κs = search needs
+
+returns : tie.Need-returns
+returns c = record { text = rw (c .with-four2 .ensures .text, c .before .with-four .ensures .text, c .before .before .with-number .ensures .text, c .before .before .before .begun .ensures .text); size = omega arith }
+
+pub record-text-spec : {M : Type 1} → statement M
+record-text-spec =
+    tie.close
+    (tie.spec
+    slice-aggregate-begun
+    begun-requires
+    with-number-requires
+    with-four-requires
+    with-four-requires-2
+    returns)

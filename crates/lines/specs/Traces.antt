@@ -1,0 +1,52 @@
+-- The lines that `trace` adds to those of `replay`: numbers in decimal, bytes in hexadecimal.
+use Prim.Native.Nat.{ℕ}
+use mathlib.Core.List.{List, [], _∷_, _++_}
+use lib.ListN.{take}
+use Rattle.wire.specs.Codes.{HEADER-LEN}
+use Rattle.pending.specs.declared.urb.Transfer.{Transfer}
+use Rattle.pending.specs.declared.urb.Urb.{Urb}
+use Rattle.session.specs.declared.answer.Removed.{Removed}
+use Rattle.session.specs.declared.answer.Removed.the-variants.{Ticket, Nothing}
+use Rattle.session.specs.declared.answer.Completion.{Completion}
+use Rattle.session.specs.declared.answer.Completion.the-variants.{Return, Refused}
+use Rattle.lines.specs.Digits.{ascii, decimal, hexOf}
+use Rattle.lines.specs.Lines.{line}
+
+-- Bytes as a field: a dash where there is none.
+abbrev pub hexField : List ℕ → List ℕ
+hexField [] = ascii "-"
+hexField (b ∷ bs) = hexOf (b ∷ bs)
+
+-- Of a feed: the bytes consumed, the length of the reply, and the reply.
+abbrev pub feedTrace : ℕ → ℕ → List ℕ → List ℕ
+feedTrace consumed length reply = line "feed" (decimal consumed ∷ decimal length ∷ hexField reply ∷ [])
+
+-- Of an accepted submit: its record, and the data of an OUT.
+abbrev pub numbersOf : Transfer → List (List ℕ)
+numbersOf t =
+    decimal (t .ticket)
+    ∷ decimal (t .seqnum)
+    ∷ decimal (t .direction)
+    ∷ decimal (t .ep)
+    ∷ decimal (t .flags)
+    ∷ decimal (t .length)
+    ∷ decimal (t .frame)
+    ∷ decimal (t .packets)
+    ∷ decimal (t .interval)
+    ∷ []
+
+abbrev pub recordTrace : Urb → List ℕ
+recordTrace u = line "record" (numbersOf (u .transfer) ++ (hexField (u .setup) ∷ []))
+
+abbrev pub dataTrace : List ℕ → List ℕ
+dataTrace bytes = line "data" (hexField bytes ∷ [])
+
+-- Of an unlink: the ticket that it removed, if it did.
+abbrev pub removedTrace : Removed → List ℕ
+removedTrace (Ticket t) = line "removed" (decimal t ∷ [])
+removedTrace Nothing = line "removed" (ascii "-" ∷ [])
+
+-- Of a completion: the length on the wire and the header of the reply, or 0 and none.
+abbrev pub headerTrace : Completion → List ℕ → List ℕ
+headerTrace (Return wire) header = line "header" (decimal wire ∷ hexField (take HEADER-LEN header) ∷ [])
+headerTrace (Refused number) header = line "header" (decimal 0 ∷ hexField [] ∷ [])

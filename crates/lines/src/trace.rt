@@ -1,0 +1,135 @@
+// The lines that the program `trace` adds to those of `replay`.
+use crate::number::PAIR;
+use crate::number::hex;
+use crate::text::Text;
+use crate::text::added;
+use crate::text::begun;
+use crate::text::ended;
+use crate::text::put;
+use crate::text::with_number;
+use pending::urb::Transfer;
+use session::answer::Completion;
+use session::answer::Removed;
+use wire::codes::HEADER_LEN;
+use wire::codes::SETUP_LEN;
+use wire::writing::write;
+ghost use Prim.Native.Nat.{_+_, _*_, _≤_};
+ghost use mathlib.Core.List.{[], _∷_, _++_};
+ghost use Rattle.wire.specs.Writing.{Wrote};
+ghost use Rattle.lines.specs.Digits.{ascii, decimal, hexOf};
+ghost use Rattle.lines.specs.Texts.{TEXT-LEN, FIELD-LEN, RECORD-LEN, textOf, Holds};
+ghost use Rattle.lines.specs.Lines.{lineOf, fields};
+ghost use Rattle.lines.specs.Traces.{hexField, feedTrace, numbersOf, recordTrace, dataTrace, removedTrace, headerTrace};
+
+// Writes a text, bytes in hexadecimal and a newline at the front of a buffer, if it has room, and answers how many bytes it
+// wrote. (The digits go straight to the buffer: they can be too many for a text.)
+fn put_bytes(t: Text, bytes: &[u8], out: &mut [u8]) -> usize
+    requires { ⌜ t .len ≤ TEXT-LEN ⌝ }
+    ensures { λ n. ⌜ Wrote ((textOf t ++ hexOf (now (bytes .entry))) ++ ascii "\n") (now (out .entry)) (now (out .exit)) n ⌝ }
+{
+    let at = t.len;
+    let room = out.len();
+    if room <= at {
+        return 0;
+    }
+    if (room - at - 1) / PAIR < bytes.len() {
+        return 0;
+    }
+    put(t, out);
+    let n = hex(bytes, &mut out[at..]);
+    let end = at + n;
+    write(&mut out[end..], b"\n");
+    end + 1
+}
+
+// A line whose last field is bytes.
+fn put_hex(t: Text, bytes: &[u8], out: &mut [u8]) -> usize
+    requires { ⌜ t .len + 3 ≤ TEXT-LEN ⌝ }
+    ensures { λ n. ⌜ Wrote (lineOf (textOf t) (hexField (now (bytes .entry)) ∷ [])) (now (out .entry)) (now (out .exit)) n ⌝ }
+{
+    if bytes.len() == 0 {
+        let none = added(t, b" -\n");
+        return put(none, out);
+    }
+    let head = added(t, b" ");
+    put_bytes(head, bytes, out)
+}
+
+// Writes the line of a feed's answer, if the buffer has room, and answers how many bytes it wrote.
+pub fn trace_feed(consumed: usize, length: usize, reply: &[u8], out: &mut [u8]) -> usize
+    ensures { λ n. ⌜ Wrote (feedTrace consumed length (now (reply .entry))) (now (out .entry)) (now (out .exit)) n ⌝ }
+{
+    let w = begun(b"feed");
+    let c = with_number(w, consumed as u64);
+    let t = with_number(c, length as u64);
+    put_hex(t, reply, out)
+}
+
+// Four fields more.
+fn with_four(t: Text, a: u32, b: u32, c: u32, d: u32) -> Text
+    requires { ⌜ t .len + 4 * FIELD-LEN ≤ TEXT-LEN ⌝ }
+    ensures { λ r. ⌜ Holds r (fields (textOf t) (decimal a ∷ decimal b ∷ decimal c ∷ decimal d ∷ [])) (t .len + 4 * FIELD-LEN) ⌝ }
+{
+    let first = with_number(t, a as u64);
+    let second = with_number(first, b as u64);
+    let third = with_number(second, c as u64);
+    with_number(third, d as u64)
+}
+
+// The numbers of a record.
+fn record_text(t: Transfer) -> Text
+    ensures { λ r. ⌜ Holds r (fields (ascii "record") (numbersOf t)) RECORD-LEN ⌝ }
+{
+    let w = begun(b"record");
+    let ticket = with_number(w, t.ticket);
+    let front = with_four(ticket, t.seqnum, t.direction, t.ep, t.flags);
+    with_four(front, t.length, t.frame, t.packets, t.interval)
+}
+
+// The same of an accepted submit's record.
+pub fn trace_record(t: Transfer, setup: [u8; SETUP_LEN], out: &mut [u8]) -> usize
+    ensures { λ n. ⌜ Wrote (recordTrace (record { transfer = t; setup = setup })) (now (out .entry)) (now (out .exit)) n ⌝ }
+{
+    let numbers = record_text(t);
+    put_hex(numbers, &setup, out)
+}
+
+// The same of an accepted submit's data.
+pub fn trace_data(bytes: &[u8], out: &mut [u8]) -> usize
+    ensures { λ n. ⌜ Wrote (dataTrace (now (bytes .entry))) (now (out .entry)) (now (out .exit)) n ⌝ }
+{
+    let w = begun(b"data");
+    put_hex(w, bytes, out)
+}
+
+// The same of what an unlink removed.
+pub fn trace_removed(r: Removed, out: &mut [u8]) -> usize
+    ensures { λ n. ⌜ Wrote (removedTrace r) (now (out .entry)) (now (out .exit)) n ⌝ }
+{
+    match r {
+        Removed::Ticket(ticket) => {
+            let w = begun(b"removed");
+            let n = with_number(w, ticket);
+            let t = ended(n);
+            put(t, out)
+        }
+        Removed::Nothing => write(out, b"removed -\n"),
+    }
+}
+
+// The same of a completion and the header buffer that it left.
+pub fn trace_header(answer: Completion, header: &[u8], out: &mut [u8]) -> usize
+    ensures { λ n. ⌜ Wrote (headerTrace answer (now (header .entry))) (now (out .entry)) (now (out .exit)) n ⌝ }
+{
+    match answer {
+        Completion::Return(wire) => {
+            let w = begun(b"header");
+            let t = with_number(w, wire);
+            if header.len() < HEADER_LEN {
+                return put_hex(t, header, out);
+            }
+            put_hex(t, &header[0..HEADER_LEN], out)
+        }
+        Completion::Refused(_) => write(out, b"header 0 -\n"),
+    }
+}

@@ -1,0 +1,119 @@
+-- The laws of what is wanted: no byte behind the record, and as many as tell it.
+use Prim.Native.Nat.{ℕ, _+_, _≤_}
+use mathlib.Core.Path.{_≡_, refl, sym, ap, _∙_}
+use mathlib.Core.List.{List, [], _∷_, _++_}
+use mathlib.Core.Logic.{_⊎_, inl, inr, ⊎-elim}
+use native.Mathlib.Omega.{arith}
+use borrow.Author.Tests.{le-ltb}
+use lib.ListN.{length, drop, length-append, length-drop}
+use lib.Seq.{take-append-le, drop-append-le}
+use Rattle.wire.specs.Fields.{unpack, field, widths, size}
+use Rattle.tape.specs.Layout
+use Rattle.tape.specs.Tape.{fieldsOf, countOf, lengthOf, headOf, readIn, readOf, wantedIn, wantedOf}
+use Rattle.tape.specs.declared.reader.Record.{Record}
+use Rattle.tape.specs.declared.reader.Record.the-variants.{Stream, Completion, Close}
+use Rattle.tape.specs.declared.reader.Read.{Read}
+use Rattle.tape.specs.declared.reader.Head.{Head}
+use Rattle.tape.proofs.Reading.{markIn, Told, told, found, unfound, value, read-head}
+
+pub one-of-3 : {A B C D : Type 0} → (A → D) → (B → D) → (C → D) → A ⊎ B ⊎ C → D
+one-of-3 f g h = ⊎-elim f (⊎-elim g h)
+
+-- ## More bytes behind
+
+unpack-more : (ws bytes more : List ℕ) → size ws ≤ length bytes → unpack ws (bytes ++ more) ≡ unpack ws bytes
+unpack-more [] bytes more h = refl
+unpack-more (w ∷ ws) bytes more h =
+    rw (take-append-le w bytes more (omega arith), drop-append-le w bytes more (omega arith), unpack-more ws (drop w bytes) more (simp length-drop (omega arith)))
+
+module _ (bytes more : List ℕ) where
+  longer : length bytes ≤ length (bytes ++ more)
+  longer = simp length-append (omega arith)
+
+  field-more : (w at : ℕ) → at + w ≤ length bytes → field w at (bytes ++ more) ≡ field w at bytes
+  field-more w at h = rw (drop-append-le at bytes more (omega arith), take-append-le w (drop at bytes) more (simp length-drop (omega arith)))
+
+  pub mark-more : Layout.MARK-LEN ≤ length bytes → markIn (bytes ++ more) ≡ markIn bytes
+  mark-more h = field-more 2 Layout.MARK-AT h
+
+  -- a head that tells a record, or that there is none, stays
+  pub record-stays : (r : Record) → Told bytes (Head.Record r) → headOf (bytes ++ more) ≡ Head.Record r
+  record-stays r t =
+      found (bytes ++ more) r (unpack-more (widths (fieldsOf r)) bytes more (t .2) ∙ t .0, t .1, omega (arith, longer))
+
+  pub bad-stays : Told bytes Head.Bad → headOf (bytes ++ more) ≡ Head.Bad
+  bad-stays t =
+      unfound (bytes ++ more)
+      (⊎-elim
+      (λ b. inl (omega (arith, longer), mark-more (omega arith) ∙ b .1, rw (field-more 2 Layout.COUNT-AT (b .0)) (b .2)))
+      (λ b. let m = mark-more (b .0) in inr (omega (arith, longer), rw m (b .1), rw m (b .2), rw m (b .3)))
+      t)
+
+-- ## How long a record is
+
+marked : (bytes : List ℕ) (r : Record) → Told bytes (Head.Record r) → markIn bytes ≡ value 0 (fieldsOf r)
+marked bytes (Stream n) t = ap (value 0) (t .0)
+marked bytes (Completion k s a) t = ap (value 0) (t .0)
+marked bytes Close t = ap (value 0) (t .0)
+
+-- at least, by its mark
+least : (r : Record)
+    → (Layout.MARK-LEN ≤ lengthOf r)
+    × (value 0 (fieldsOf r) ≡ Layout.STREAM-MARK → Layout.STREAM-AT ≤ lengthOf r)
+    × (value 0 (fieldsOf r) ≡ Layout.COMPLETION-MARK → Layout.COMPLETION-LEN ≤ lengthOf r)
+least (Stream n) = omega arith
+least (Completion k s a) = omega arith
+least Close = omega arith
+
+-- at most, by its count
+most : (r : Record) → countOf r ≤ Layout.MAX-COUNT → lengthOf r ≤ Layout.MAX-RECORD-LEN
+most (Stream n) h = omega arith
+most (Completion k s a) h = omega arith
+most Close h = omega arith
+
+-- ## What is wanted
+
+module _ (bytes more : List ℕ) where
+  past : (h : Head) → Told bytes h → (r : Record) → headOf (bytes ++ more) ≡ Head.Record r → wantedIn (length bytes) h ≤ lengthOf r
+  past (Head.Record q) t r e =
+      let s = record-stays bytes more q t in
+      let p : q ≡ r = cc in
+      rw p (omega arith)
+  past (Head.Short n) t r e =
+      let m = sym (marked (bytes ++ more) r (rw e at (told (bytes ++ more)))) in
+      let l = least r in
+      one-of-3
+      (λ a. rw a (l .0))
+      (λ a. rw (a .2) (l .1 (m ∙ mark-more bytes more (a .0) ∙ a .1)))
+      (λ a. rw (a .2) (l .2 (m ∙ mark-more bytes more (a .0) ∙ a .1)))
+      (t .1)
+  past Head.Bad t r e =
+      let b = bad-stays bytes more t in
+      absurd (let z : _≡_ {A = ℕ} 0 1 = cc in omega arith)
+
+  -- no more bytes than the record has
+  pub never-past : (r : Record) → readOf (bytes ++ more) ≡ Read.Record r → wantedOf bytes ≤ lengthOf r
+  never-past r e = past (headOf bytes) (told bytes) r (read-head (length (bytes ++ more)) (headOf (bytes ++ more)) r e .0)
+
+  settled : (h : Head) → Told bytes h → wantedIn (length bytes) h ≤ length bytes → readOf (bytes ++ more) ≡ readIn (length bytes) h
+  settled (Head.Record q) t w =
+      rw (record-stays bytes more q t, le-ltb (length (bytes ++ more)) (lengthOf q) (omega (arith, longer bytes more)), le-ltb (length bytes) (lengthOf q) w)
+  settled (Head.Short n) t w = absurd (omega arith)
+  settled Head.Bad t w = rw (bad-stays bytes more t)
+
+  -- where as many are there, what stands behind them changes nothing
+  pub enough : wantedOf bytes ≤ length bytes → readOf (bytes ++ more) ≡ readOf bytes
+  enough w = settled (headOf bytes) (told bytes) w
+
+-- as many as a record has that is read
+pub wanted-exact : (bytes : List ℕ) (r : Record) → readOf bytes ≡ Read.Record r → wantedOf bytes ≡ lengthOf r
+wanted-exact bytes r e = ap (wantedIn (length bytes)) (read-head (length bytes) (headOf bytes) r e .0)
+
+room-for : (bytes : List ℕ) (h : Head) → Told bytes h → length bytes ≤ Layout.MAX-RECORD-LEN → wantedIn (length bytes) h ≤ Layout.MAX-RECORD-LEN
+room-for bytes (Head.Record r) t l = most r (t .1)
+room-for bytes (Head.Short n) t l = one-of-3 (λ a. omega arith) (λ a. omega arith) (λ a. omega arith) (t .1)
+room-for bytes Head.Bad t l = l
+
+-- no more than a buffer for the longest record has room for
+pub wanted-room : (bytes : List ℕ) → length bytes ≤ Layout.MAX-RECORD-LEN → wantedOf bytes ≤ Layout.MAX-RECORD-LEN
+wanted-room bytes l = room-for bytes (headOf bytes) (told bytes) l

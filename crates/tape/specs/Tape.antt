@@ -1,0 +1,115 @@
+-- A tape's records, each read from the bytes at the front of what is left of the tape (01, "The replay tape").
+use Prim.Native.Nat.{ℕ, zero, suc, _+_, _≤_, min}
+use mathlib.Core.Path.{_≡_}
+use mathlib.Core.Bool.{cond}
+use mathlib.Core.Logic.{_⊎_}
+use mathlib.Core.List.{List, [], _∷_, _++_}
+use lib.Dec.{eqb, ltb, leb}
+use lib.ListN.{length, take, drop}
+use Rattle.wire.specs.Fields.{Field, u16, u32, pack, field, widths, size, Fitting}
+use Rattle.tape.specs.Layout
+use Rattle.tape.specs.declared.reader.Record.{Record}
+use Rattle.tape.specs.declared.reader.Record.the-variants.{Stream, Completion, Close}
+use Rattle.tape.specs.declared.reader.Read.{Read}
+use Rattle.tape.specs.declared.reader.Head.{Head}
+
+-- ## A record
+
+abbrev pub u64 : ℕ → Field
+u64 x = record { width = 8; value = x }
+
+-- What each case stands for: its mark and the fields behind it, in the order of the tape.
+abbrev pub fieldsOf : Record → List Field
+fieldsOf (Stream count) = u16 Layout.STREAM-MARK ∷ u16 count ∷ []
+fieldsOf (Completion ticket status actual) = u16 Layout.COMPLETION-MARK ∷ u64 ticket ∷ u32 status ∷ u32 actual ∷ []
+fieldsOf Close = u16 Layout.CLOSE-MARK ∷ []
+
+-- How many stream bytes follow the fields.
+abbrev pub countOf : Record → ℕ
+countOf (Stream count) = count
+countOf (Completion ticket status actual) = 0
+countOf Close = 0
+
+-- How many bytes a record takes.
+abbrev pub lengthOf : Record → ℕ
+lengthOf r = size (widths (fieldsOf r)) + countOf r
+
+-- A record's bytes, its stream bytes behind the fields.
+abbrev pub recordBytes : Record → List ℕ → List ℕ
+recordBytes r stream = pack (fieldsOf r) ++ stream
+
+-- Bytes start with a record. proofs/Reading.antt shows that just these are read.
+pub record Starts (bytes : List ℕ) (r : Record) : Type 0 where
+  pub stream : List ℕ
+  pub rest : List ℕ
+  pub whole : bytes ≡ recordBytes r stream ++ rest
+  pub count : length stream ≡ countOf r
+  pub few : countOf r ≤ Layout.MAX-COUNT
+  pub fits : Fitting (fieldsOf r)
+
+-- ## Reading
+
+-- What the first bytes of a record tell: which it is, how many bytes are needed to tell more, or that it doesn't read. Behind
+-- `C>`, behind `D>`, and at the front.
+unfoldable pub streamHead : List ℕ → Head
+streamHead bytes =
+    let count = field 2 Layout.COUNT-AT bytes in
+    cond (ltb (length bytes) Layout.STREAM-AT) (Head.Short Layout.STREAM-AT)
+    (cond (ltb Layout.MAX-COUNT count) Head.Bad (Head.Record (Stream count)))
+
+unfoldable pub completionHead : List ℕ → Head
+completionHead bytes =
+    cond (ltb (length bytes) Layout.COMPLETION-LEN) (Head.Short Layout.COMPLETION-LEN)
+    (Head.Record (Completion (field 8 Layout.TICKET-AT bytes) (field 4 Layout.STATUS-AT bytes) (field 4 Layout.ACTUAL-AT bytes)))
+
+unfoldable pub headOf : List ℕ → Head
+headOf bytes =
+    let mark = field 2 Layout.MARK-AT bytes in
+    cond (ltb (length bytes) Layout.MARK-LEN) (Head.Short Layout.MARK-LEN)
+    (cond (eqb mark Layout.STREAM-MARK) (streamHead bytes)
+    (cond (eqb mark Layout.COMPLETION-MARK) (completionHead bytes)
+    (cond (eqb mark Layout.CLOSE-MARK) (Head.Record Close) Head.Bad)))
+
+-- The record at the front. "A record that doesn't read": "another mark, a count too high, too few bytes".
+abbrev pub readIn : ℕ → Head → Read
+readIn present (Head.Record r) = cond (ltb present (lengthOf r)) Read.Bad (Read.Record r)
+readIn present (Head.Short n) = Read.Bad
+readIn present Head.Bad = Read.Bad
+
+abbrev pub readOf : List ℕ → Read
+readOf bytes = readIn (length bytes) (headOf bytes)
+
+-- The record at the front behind as many others: "a 65,537th record" doesn't read.
+abbrev pub nextOf : ℕ → List ℕ → Read
+nextOf before bytes = cond (leb Layout.MAX-RECORDS before) Read.Bad (readOf bytes)
+
+-- The stream bytes of a `C>` record, where all are there.
+abbrev pub streamOf : ℕ → List ℕ → List ℕ
+streamOf count bytes = cond (ltb (length bytes) (Layout.STREAM-AT + count)) [] (take count (drop Layout.STREAM-AT bytes))
+
+-- ## Reading piece by piece
+
+-- How many bytes a record takes, as far as its first bytes tell; those that are there where it doesn't read.
+abbrev pub wantedIn : ℕ → Head → ℕ
+wantedIn present (Head.Record r) = lengthOf r
+wantedIn present (Head.Short n) = n
+wantedIn present Head.Bad = present
+
+abbrev pub wantedOf : List ℕ → ℕ
+wantedOf bytes = wantedIn (length bytes) (headOf bytes)
+
+-- How many bytes of a tape a program has that asks n times how many are wanted, and reads on to as many or to the end.
+abbrev pub taken : ℕ → List ℕ → ℕ
+taken zero tape = 0
+taken (suc n) tape = min (wantedOf (take (taken n tape) tape)) (length tape)
+
+-- Nothing more is wanted, or nothing more comes.
+abbrev pub Stopped : List ℕ → ℕ → Type 0
+Stopped tape have = (wantedOf (take have tape) ≤ have) ⊎ (have ≡ length tape)
+
+-- The first bytes of a tape, as many as `have`, read as the whole tape does; no byte behind the record is among them; and a
+-- buffer for the longest record has room for them.
+pub record Streamed (tape : List ℕ) (have : ℕ) : Type 0 where
+  pub same : readOf (take have tape) ≡ readOf tape
+  pub exact : (r : Record) → readOf tape ≡ Read.Record r → have ≡ lengthOf r
+  pub room : have ≤ Layout.MAX-RECORD-LEN
