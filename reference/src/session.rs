@@ -1,0 +1,424 @@
+//! A session: one connection of the exporting end, and its pending URBs.
+
+use crate::refusal::{Break, Refusal, ECONNRESET, EINVAL, ENODEV, ENOMEM};
+use crate::table::{self, Device};
+use crate::wire::{
+    self, be16, CmdSubmit, CmdUnlink, Command, RetSubmit, HEADER_SIZE, NOT_ISOCHRONOUS,
+    OP_COMMON_SIZE, OP_REQ_IMPORT_SIZE, USBIP_DIR_IN, USBIP_DIR_OUT,
+};
+
+#[cfg(test)]
+mod tests;
+
+pub const MAX_TRANSFER_BUFFER_LENGTH: u32 = 16_384;
+pub const MAX_EP: u32 = 15;
+pub const MAX_PENDING: usize = 32;
+pub const LEAST_WORK: usize = MAX_TRANSFER_BUFFER_LENGTH as usize;
+pub const LEAST_REPLY: usize = 8_192;
+
+/// An accepted submit. The device side knows it by its ticket only.
+#[derive(Clone, Debug, PartialEq, Eq)]
+pub struct Urb {
+    pub ticket: u64,
+    pub seqnum: u32,
+    pub direction: u32,
+    pub ep: u32,
+    pub transfer_flags: u32,
+    pub transfer_buffer_length: u32,
+    pub start_frame: u32,
+    pub number_of_packets: u32,
+    pub interval: u32,
+    pub setup: [u8; 8],
+}
+
+#[derive(Clone, Debug, PartialEq, Eq)]
+pub enum Event {
+    Hungry,
+    List,
+    Import {
+        status: u32,
+    },
+    Accepted(Urb),
+    RefusedSubmit {
+        seqnum: u32,
+        status: i32,
+    },
+    Unlink {
+        seqnum: u32,
+        status: i32,
+        removed: Option<u64>,
+    },
+    Broken {
+        reason: Break,
+        dropped: Vec<u64>,
+    },
+    Refused(Refusal),
+}
+
+/// What a feed answers.
+#[derive(Clone, Debug, PartialEq, Eq)]
+pub struct Fed {
+    pub consumed: usize,
+    /// Bytes at the start of the reply buffer.
+    pub length: usize,
+    pub event: Event,
+}
+
+/// Accepted submits, and how many of them have each fate.
+#[derive(Clone, Copy, Debug, Default, PartialEq, Eq)]
+pub struct Numbers {
+    pub accepted: u64,
+    pub pending: u64,
+    pub returned: u64,
+    pub unlinked: u64,
+    pub dropped: u64,
+}
+
+#[derive(Clone, Copy, Debug, PartialEq, Eq)]
+enum State {
+    Waiting,
+    Attached { devid: u32 },
+    Closed,
+}
+
+#[derive(Clone, Debug, PartialEq, Eq)]
+pub struct Session {
+    state: State,
+    table: Vec<Device>,
+    /// The message in progress, without its OUT data.
+    head: Vec<u8>,
+    /// How much of its OUT data is in.
+    received: usize,
+    /// In ticket order.
+    pending: Vec<Urb>,
+    accepted: u64,
+    returned: u64,
+    unlinked: u64,
+    dropped: u64,
+}
+
+/// An event and the bytes that go to the client with it.
+type Answer = (Event, Vec<u8>);
+
+const HUNGRY: Answer = (Event::Hungry, Vec::new());
+
+impl Session {
+    /// With a table that breaks a rule the session is closed, and its table empty.
+    pub fn open(table: Vec<Device>) -> (Session, Result<(), Refusal>) {
+        if table::follows_rules(&table) {
+            (Session::new(State::Waiting, table), Ok(()))
+        } else {
+            let closed = Session::new(State::Closed, Vec::new());
+            (closed, Err(Refusal::Table))
+        }
+    }
+
+    fn new(state: State, table: Vec<Device>) -> Session {
+        Session {
+            state,
+            table,
+            head: Vec::new(),
+            received: 0,
+            pending: Vec::new(),
+            accepted: 0,
+            returned: 0,
+            unlinked: 0,
+            dropped: 0,
+        }
+    }
+
+    pub fn is_closed(&self) -> bool {
+        self.state == State::Closed
+    }
+
+    pub fn is_attached(&self) -> bool {
+        matches!(self.state, State::Attached { .. })
+    }
+
+    pub fn pending(&self) -> &[Urb] {
+        &self.pending
+    }
+
+    pub fn numbers(&self) -> Numbers {
+        Numbers {
+            accepted: self.accepted,
+            pending: self.pending.len() as u64,
+            returned: self.returned,
+            unlinked: self.unlinked,
+            dropped: self.dropped,
+        }
+    }
+
+    /// Takes a piece of the stream up to the end of its first message.
+    pub fn feed(&mut self, piece: &[u8], work: &mut [u8], reply: &mut [u8]) -> Fed {
+        if let Some(refusal) = self.refuses_feed(work, reply) {
+            return Fed {
+                consumed: 0,
+                length: 0,
+                event: Event::Refused(refusal),
+            };
+        }
+        let mut rest = piece;
+        let (event, answer) = match self.state {
+            State::Attached { devid } => self.read_command(devid, &mut rest, work),
+            _ => self.read_request(&mut rest),
+        };
+        if event != Event::Hungry {
+            self.forget_message();
+        }
+        reply[..answer.len()].copy_from_slice(&answer);
+        Fed {
+            consumed: piece.len() - rest.len(),
+            length: answer.len(),
+            event,
+        }
+    }
+
+    /// Writes the 48 bytes of the return and answers its length on the wire.
+    pub fn complete(
+        &mut self,
+        ticket: u64,
+        status: i32,
+        actual_length: u32,
+        data: &[u8],
+        header: &mut [u8],
+    ) -> Result<usize, Refusal> {
+        if self.is_closed() {
+            return Err(Refusal::Closed);
+        }
+        let Some(header) = header.get_mut(..HEADER_SIZE) else {
+            return Err(Refusal::SmallBuffer);
+        };
+        let mut urbs = self.pending.iter();
+        let Some(index) = urbs.position(|urb| urb.ticket == ticket) else {
+            return Err(Refusal::NotPending);
+        };
+        let urb = &self.pending[index];
+        check_completion(urb, status, actual_length, data)?;
+        let ret = RetSubmit {
+            seqnum: urb.seqnum,
+            status,
+            actual_length,
+            start_frame: urb.start_frame,
+            number_of_packets: urb.number_of_packets,
+        };
+        header.copy_from_slice(&ret.header());
+        let data_length = match urb.direction {
+            USBIP_DIR_IN => actual_length as usize,
+            _ => 0,
+        };
+        self.pending.remove(index);
+        self.returned += 1;
+        Ok(HEADER_SIZE + data_length)
+    }
+
+    /// Ends the session and answers the tickets of the URBs it drops.
+    pub fn close(&mut self) -> Result<Vec<u64>, Refusal> {
+        if self.is_closed() {
+            return Err(Refusal::Closed);
+        }
+        Ok(self.end())
+    }
+
+    fn refuses_feed(&self, work: &[u8], reply: &[u8]) -> Option<Refusal> {
+        if self.is_closed() {
+            Some(Refusal::Closed)
+        } else if work.len() < LEAST_WORK || reply.len() < LEAST_REPLY {
+            Some(Refusal::SmallBuffer)
+        } else {
+            None
+        }
+    }
+
+    fn read_request(&mut self, rest: &mut &[u8]) -> Answer {
+        if !self.fill_head(OP_COMMON_SIZE, rest) {
+            return HUNGRY;
+        }
+        if be16(&self.head, 0) != wire::USBIP_VERSION {
+            return self.break_with(Break::Version);
+        }
+        match be16(&self.head, 2) {
+            wire::OP_REQ_DEVLIST => self.list(),
+            wire::OP_REQ_IMPORT if self.fill_head(OP_REQ_IMPORT_SIZE, rest) => self.import(),
+            wire::OP_REQ_IMPORT => HUNGRY,
+            _ => self.break_with(Break::Code),
+        }
+    }
+
+    fn list(&mut self) -> Answer {
+        self.state = State::Closed;
+        (Event::List, wire::op_rep_devlist(&self.table))
+    }
+
+    fn import(&mut self) -> Answer {
+        let busid = &self.head[OP_COMMON_SIZE..];
+        let device = self.table.iter().find(|device| device.busid == busid);
+        let (state, status) = match device {
+            Some(device) => {
+                let devid = device.devid();
+                (State::Attached { devid }, wire::IMPORT_OK)
+            }
+            None => (State::Closed, wire::IMPORT_ERROR),
+        };
+        let reply = wire::op_rep_import(device);
+        self.state = state;
+        (Event::Import { status }, reply)
+    }
+
+    fn read_command(&mut self, devid: u32, rest: &mut &[u8], work: &mut [u8]) -> Answer {
+        let header_was_in = self.head.len() == HEADER_SIZE;
+        if !self.fill_head(HEADER_SIZE, rest) {
+            return HUNGRY;
+        }
+        let submit = match Command::read(&self.head) {
+            None => return self.break_with(Break::Command),
+            Some(Command::Unlink(unlink)) => return self.unlink(&unlink),
+            Some(Command::Submit(submit)) => submit,
+        };
+        // Breaks come with the 48th byte and never later.
+        if !header_was_in {
+            if let Err(reason) = self.check_submit(&submit) {
+                return self.break_with(reason);
+            }
+        }
+        if !self.fill_work(submit.data_size(), rest, work) {
+            return HUNGRY;
+        }
+        self.judge(&submit, devid)
+    }
+
+    fn check_submit(&self, submit: &CmdSubmit) -> Result<(), Break> {
+        if ![USBIP_DIR_OUT, USBIP_DIR_IN].contains(&submit.direction) {
+            Err(Break::Direction)
+        } else if submit.transfer_buffer_length > MAX_TRANSFER_BUFFER_LENGTH {
+            Err(Break::TransferBufferLength)
+        } else if ![0, NOT_ISOCHRONOUS].contains(&submit.number_of_packets) {
+            Err(Break::NumberOfPackets)
+        } else if self.find_seqnum(submit.seqnum).is_some() {
+            Err(Break::Seqnum)
+        } else {
+            Ok(())
+        }
+    }
+
+    /// Accepts or answers a submit whose last byte is in.
+    fn judge(&mut self, submit: &CmdSubmit, devid: u32) -> Answer {
+        let full = self.pending.len() == MAX_PENDING || self.accepted == u64::MAX;
+        let status = if submit.devid != devid {
+            -ENODEV
+        } else if submit.ep > MAX_EP {
+            -EINVAL
+        } else if full {
+            -ENOMEM
+        } else {
+            return self.accept(submit);
+        };
+        let seqnum = submit.seqnum;
+        let ret = RetSubmit {
+            seqnum,
+            status,
+            actual_length: 0,
+            start_frame: submit.start_frame,
+            number_of_packets: submit.number_of_packets,
+        };
+        let event = Event::RefusedSubmit { seqnum, status };
+        (event, ret.header().to_vec())
+    }
+
+    fn accept(&mut self, submit: &CmdSubmit) -> Answer {
+        self.accepted += 1;
+        let urb = Urb {
+            ticket: self.accepted,
+            seqnum: submit.seqnum,
+            direction: submit.direction,
+            ep: submit.ep,
+            transfer_flags: submit.transfer_flags,
+            transfer_buffer_length: submit.transfer_buffer_length,
+            start_frame: submit.start_frame,
+            number_of_packets: submit.number_of_packets,
+            interval: submit.interval,
+            setup: submit.setup,
+        };
+        self.pending.push(urb.clone());
+        (Event::Accepted(urb), Vec::new())
+    }
+
+    fn unlink(&mut self, unlink: &CmdUnlink) -> Answer {
+        let seqnum = unlink.seqnum;
+        let (status, removed) = match self.find_seqnum(unlink.unlink_seqnum) {
+            Some(index) => {
+                self.unlinked += 1;
+                (-ECONNRESET, Some(self.pending.remove(index).ticket))
+            }
+            None => (0, None),
+        };
+        let event = Event::Unlink {
+            seqnum,
+            status,
+            removed,
+        };
+        (event, wire::ret_unlink(seqnum, status).to_vec())
+    }
+
+    fn find_seqnum(&self, seqnum: u32) -> Option<usize> {
+        self.pending.iter().position(|urb| urb.seqnum == seqnum)
+    }
+
+    fn break_with(&mut self, reason: Break) -> Answer {
+        let dropped = self.end();
+        (Event::Broken { reason, dropped }, Vec::new())
+    }
+
+    fn end(&mut self) -> Vec<u64> {
+        self.state = State::Closed;
+        self.forget_message();
+        let dropped: Vec<u64> = self.pending.drain(..).map(|urb| urb.ticket).collect();
+        self.dropped += dropped.len() as u64;
+        dropped
+    }
+
+    fn forget_message(&mut self) {
+        self.head.clear();
+        self.received = 0;
+    }
+
+    /// Moves bytes from the piece until the head has `size` of them; tells whether it has.
+    fn fill_head(&mut self, size: usize, rest: &mut &[u8]) -> bool {
+        let missing = size.saturating_sub(self.head.len());
+        self.head.extend(take(rest, missing));
+        self.head.len() >= size
+    }
+
+    /// Moves OUT data from the piece to its own place in the work buffer; tells whether all is in.
+    fn fill_work(&mut self, size: usize, rest: &mut &[u8], work: &mut [u8]) -> bool {
+        let data = take(rest, size - self.received);
+        let end = self.received + data.len();
+        work[self.received..end].copy_from_slice(data);
+        self.received = end;
+        self.received == size
+    }
+}
+
+fn check_completion(
+    urb: &Urb,
+    status: i32,
+    actual_length: u32,
+    data: &[u8],
+) -> Result<(), Refusal> {
+    if status > 0 {
+        Err(Refusal::PositiveStatus)
+    } else if actual_length > urb.transfer_buffer_length {
+        Err(Refusal::ActualLength)
+    } else if urb.direction == USBIP_DIR_IN && data.len() < actual_length as usize {
+        Err(Refusal::ShortData)
+    } else {
+        Ok(())
+    }
+}
+
+/// The first bytes of the piece, at most `most`, which then are no longer in it.
+fn take<'a>(rest: &mut &'a [u8], most: usize) -> &'a [u8] {
+    let (taken, left) = rest.split_at(most.min(rest.len()));
+    *rest = left;
+    taken
+}

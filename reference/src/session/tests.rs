@@ -1,0 +1,668 @@
+use super::*;
+use crate::capture::{self, bytes};
+use crate::sending;
+use crate::tape;
+use crate::wire::{op_rep_devlist, op_req_devlist, op_req_import_of};
+
+const DEVID: u32 = 0x0001_000f;
+/// A byte that no reply is made of, to see what wasn't written.
+const UNTOUCHED: u8 = 0xa5;
+
+/// A session with its buffers, and what it last wrote to the client.
+struct Deck {
+    session: Session,
+    work: Vec<u8>,
+    reply: Vec<u8>,
+    header: [u8; HEADER_SIZE],
+}
+
+impl Deck {
+    fn waiting(table: Vec<Device>) -> Deck {
+        let (session, opened) = Session::open(table);
+        assert_eq!(opened, Ok(()));
+        Deck {
+            session,
+            work: vec![UNTOUCHED; LEAST_WORK],
+            reply: vec![UNTOUCHED; LEAST_REPLY],
+            header: [UNTOUCHED; HEADER_SIZE],
+        }
+    }
+
+    fn attached() -> Deck {
+        let mut deck = Deck::waiting(tape::table());
+        let fed = deck.feed(&op_req_import_of("1-1"));
+        assert_eq!(fed.event, Event::Import { status: 0 });
+        assert!(deck.session.is_attached());
+        deck.reply.fill(UNTOUCHED);
+        deck
+    }
+
+    /// Attached, with submits 1 to `count` pending under tickets of the same numbers.
+    fn with_pending(count: u32) -> Deck {
+        let mut deck = Deck::attached();
+        for seqnum in 1..=count {
+            let (ticket, urb) = (u64::from(seqnum), intr_in(seqnum));
+            assert_eq!(deck.accept(&urb), ticket);
+        }
+        deck
+    }
+
+    fn feed(&mut self, piece: &[u8]) -> Fed {
+        self.session.feed(piece, &mut self.work, &mut self.reply)
+    }
+
+    fn accept(&mut self, submit: &CmdSubmit) -> u64 {
+        match self.feed(&submit.header()).event {
+            Event::Accepted(urb) => urb.ticket,
+            other => panic!("{other:?}"),
+        }
+    }
+
+    fn answer(&mut self, submit: &CmdSubmit) -> i32 {
+        match self.feed(&submit.header()).event {
+            Event::RefusedSubmit { seqnum, status } if seqnum == submit.seqnum => status,
+            other => panic!("{other:?}"),
+        }
+    }
+
+    fn breaks(&mut self, message: &[u8]) -> (Break, Vec<u64>) {
+        match self.feed(message).event {
+            Event::Broken { reason, dropped } => (reason, dropped),
+            other => panic!("{other:?}"),
+        }
+    }
+
+    fn unlink(&mut self, seqnum: u32, unlink_seqnum: u32) -> (i32, Option<u64>) {
+        let unlink = CmdUnlink {
+            seqnum,
+            unlink_seqnum,
+            ..CmdUnlink::default()
+        };
+        match self.feed(&unlink.header()).event {
+            Event::Unlink {
+                seqnum: own,
+                status,
+                removed,
+            } if own == seqnum => (status, removed),
+            other => panic!("{other:?}"),
+        }
+    }
+
+    fn complete(&mut self, ticket: u64, status: i32, length: u32) -> Result<usize, Refusal> {
+        let data = [0; tape::DEVICE_DATA_SIZE];
+        self.session
+            .complete(ticket, status, length, &data, &mut self.header)
+    }
+
+    fn numbers(&self) -> [u64; 5] {
+        let numbers = self.session.numbers();
+        [
+            numbers.accepted,
+            numbers.pending,
+            numbers.returned,
+            numbers.unlinked,
+            numbers.dropped,
+        ]
+    }
+}
+
+fn intr_in(seqnum: u32) -> CmdSubmit {
+    CmdSubmit {
+        seqnum,
+        devid: DEVID,
+        direction: USBIP_DIR_IN,
+        ep: 1,
+        transfer_buffer_length: 64,
+        ..CmdSubmit::default()
+    }
+}
+
+fn intr_out(seqnum: u32) -> CmdSubmit {
+    CmdSubmit {
+        direction: USBIP_DIR_OUT,
+        ..intr_in(seqnum)
+    }
+}
+
+fn with(change: impl Fn(&mut CmdSubmit)) -> CmdSubmit {
+    let mut submit = intr_in(100);
+    change(&mut submit);
+    submit
+}
+
+mod known_exchanges {
+    use super::*;
+
+    #[test]
+    fn list_of_an_empty_table() {
+        let mut empty = Deck::waiting(vec![]);
+        let fed = empty.feed(&[0x01, 0x11, 0x80, 0x05, 0, 0, 0, 0]);
+        assert_eq!((fed.consumed, fed.length, fed.event), (8, 12, Event::List));
+        assert_eq!(empty.reply[..12], [1, 0x11, 0, 5, 0, 0, 0, 0, 0, 0, 0, 0]);
+        assert_eq!(empty.reply[12], UNTOUCHED);
+        assert!(empty.session.is_closed());
+    }
+
+    #[test]
+    fn unknown_busid() {
+        let mut deck = Deck::waiting(tape::table());
+        let fed = deck.feed(&op_req_import_of("1-2"));
+        assert_eq!((fed.consumed, fed.length), (40, 8));
+        assert_eq!(fed.event, Event::Import { status: 1 });
+        assert_eq!(deck.reply[..9], [1, 0x11, 0, 3, 0, 0, 0, 1, UNTOUCHED]);
+        assert!(deck.session.is_closed());
+    }
+
+    #[test]
+    fn captured_in_is_accepted_for_its_own_devid_only() {
+        let mut deck = Deck::attached();
+        let mut message = bytes(capture::CMD_INTR_IN);
+        let urb = Urb {
+            ticket: 1,
+            seqnum: 0xd05,
+            direction: 1,
+            ep: 1,
+            transfer_flags: 0x200,
+            transfer_buffer_length: 0x40,
+            start_frame: 0xffff_ffff,
+            number_of_packets: 0,
+            interval: 4,
+            setup: [0; 8],
+        };
+        let fed = deck.feed(&message);
+        assert_eq!((fed.consumed, fed.length), (48, 0));
+        assert_eq!(fed.event, Event::Accepted(urb));
+        assert_eq!(deck.reply[0], UNTOUCHED);
+
+        let mut deck = Deck::attached();
+        message[11] = 0x0e;
+        let (seqnum, status) = (0xd05, -19);
+        let fed = deck.feed(&message);
+        assert_eq!(fed.event, Event::RefusedSubmit { seqnum, status });
+        assert_eq!(
+            deck.reply[..fed.length],
+            bytes("00000003 00000d05 00000000 00000000 00000000 ffffffed 00000000 ffffffff 00000000 00000000 00000000 00000000")
+        );
+        assert_eq!(deck.reply[48], UNTOUCHED);
+        assert_eq!(deck.numbers(), [0; 5]);
+    }
+
+    #[test]
+    fn unlink_of_a_pending_urb_and_again() {
+        let mut deck = Deck::attached();
+        deck.accept(&intr_in(0xd05));
+        assert_eq!(deck.unlink(0xd07, 0xd05), (-104, Some(1)));
+        let mut words = bytes("00000004 00000d07 00000000 00000000 00000000 ffffff98");
+        words.resize(48, 0);
+        assert_eq!(deck.reply[..48], words);
+        assert_eq!(deck.unlink(0xd07, 0xd05), (0, None));
+        words[20..24].fill(0);
+        assert_eq!(deck.reply[..48], words);
+        assert_eq!(deck.numbers(), [1, 0, 0, 1, 0]);
+    }
+
+    #[test]
+    fn transfer_buffer_length_at_its_limit() {
+        let mut deck = Deck::attached();
+        deck.accept(&with(|submit| submit.transfer_buffer_length = 16_384));
+        let long = |submit: &mut CmdSubmit| {
+            submit.seqnum = 101;
+            submit.transfer_buffer_length = 16_385;
+        };
+        let dropped = deck.breaks(&with(long).header());
+        assert_eq!(dropped, (Break::TransferBufferLength, vec![1]));
+    }
+
+    #[test]
+    fn ep_at_its_limit() {
+        let mut deck = Deck::attached();
+        deck.accept(&with(|submit| submit.ep = 15));
+        let status = deck.answer(&CmdSubmit {
+            ep: 16,
+            ..intr_in(101)
+        });
+        assert_eq!(status, -22);
+    }
+
+    #[test]
+    fn pending_urbs_at_their_limit() {
+        let mut deck = Deck::with_pending(32);
+        assert_eq!(deck.answer(&intr_in(33)), -12);
+        assert_eq!(deck.complete(7, 0, 64), Ok(112));
+        assert_eq!(deck.accept(&intr_in(33)), 33);
+        assert_eq!(deck.numbers(), [33, 32, 1, 0, 0]);
+    }
+
+    #[test]
+    fn out_of_length_0_is_accepted_with_the_48th_byte() {
+        let mut deck = Deck::attached();
+        let submit = CmdSubmit {
+            transfer_buffer_length: 0,
+            ..intr_out(1)
+        };
+        let header = submit.header();
+        assert_eq!(deck.feed(&header[..47]).event, Event::Hungry);
+        let fed = deck.feed(&header[47..]);
+        assert!(matches!(fed.event, Event::Accepted(_)));
+        assert_eq!(deck.complete(1, 0, 0), Ok(48));
+    }
+
+    /// Everything that the sending step hands out, three bytes at a time.
+    fn sent(header: &[u8], data: &[u8], length: usize) -> Vec<u8> {
+        let mut sent = Vec::new();
+        while sent.len() < length {
+            let part = sending::part(header, data, length - HEADER_SIZE, sent.len(), 3);
+            sent.extend(part);
+        }
+        sent
+    }
+
+    #[test]
+    fn captured_messages_run_as_written() {
+        let mut deck = Deck::attached();
+        deck.feed(&bytes(capture::CMD_INTR_IN));
+        let out_data = bytes(capture::CMD_INTR_OUT_DATA);
+        let message = [bytes(capture::CMD_INTR_OUT), out_data.clone()].concat();
+        let fed = deck.feed(&message);
+        assert!(matches!(fed.event, Event::Accepted(_)));
+        assert_eq!(deck.work[..64], out_data);
+
+        let mut header = [0; HEADER_SIZE];
+        let session = &mut deck.session;
+        let length = session.complete(2, 0, 64, &[], &mut header).unwrap();
+        assert_eq!(sent(&header, &[], length), bytes(capture::RET_INTR_OUT));
+
+        let data = bytes(capture::RET_INTR_IN_DATA);
+        let length = session.complete(1, 0, 64, &data, &mut header).unwrap();
+        let whole = [bytes(capture::RET_INTR_IN), data.clone()].concat();
+        assert_eq!(sent(&header, &data, length), whole);
+    }
+}
+
+mod refusals {
+    use super::*;
+
+    #[test]
+    fn small_buffers_at_every_feed() {
+        for mut deck in [Deck::waiting(tape::table()), Deck::attached()] {
+            let before = deck.session.clone();
+            for (work, reply) in [(LEAST_WORK - 1, LEAST_REPLY), (LEAST_WORK, LEAST_REPLY - 1)] {
+                for piece in [&[][..], &[1], &op_req_devlist()] {
+                    let work = &mut deck.work[..work];
+                    let fed = deck.session.feed(piece, work, &mut deck.reply[..reply]);
+                    assert_eq!((fed.consumed, fed.length), (0, 0));
+                    assert_eq!(fed.event, Event::Refused(Refusal::SmallBuffer));
+                }
+            }
+            assert_eq!(deck.session, before);
+            assert_eq!(deck.feed(&[]).event, Event::Hungry);
+        }
+    }
+
+    #[test]
+    fn small_header_before_the_other_tests() {
+        let mut deck = Deck::with_pending(1);
+        let before = deck.session.clone();
+        for ticket in [1, 2] {
+            let mut header = [UNTOUCHED; 47];
+            let result = deck.session.complete(ticket, 1, 65, &[], &mut header);
+            assert_eq!(result, Err(Refusal::SmallBuffer));
+            assert_eq!(header, [UNTOUCHED; 47]);
+        }
+        assert_eq!(deck.session, before);
+    }
+
+    #[test]
+    fn closed_is_tested_before_small_buffers() {
+        let mut deck = Deck::with_pending(1);
+        assert_eq!(deck.session.close(), Ok(vec![1]));
+        let closed = deck.session.clone();
+        let fed = deck.session.feed(&[], &mut [], &mut []);
+        assert_eq!(fed.event, Event::Refused(Refusal::Closed));
+        let result = deck.session.complete(1, 0, 0, &[], &mut []);
+        assert_eq!(result, Err(Refusal::Closed));
+        assert_eq!(deck.session.close(), Err(Refusal::Closed));
+        assert_eq!(deck.session, closed);
+    }
+
+    #[test]
+    fn a_bad_table_leaves_a_closed_session() {
+        let twice = [tape::table(), tape::table()].concat();
+        let (mut session, opened) = Session::open(twice);
+        assert_eq!(opened, Err(Refusal::Table));
+        assert!(session.is_closed());
+        assert_eq!(session.table, []);
+        assert_eq!(session.numbers(), Numbers::default());
+        assert_eq!(session.close(), Err(Refusal::Closed));
+    }
+
+    #[test]
+    fn completions_are_refused_lowest_number_first() {
+        let mut deck = Deck::with_pending(2);
+        assert_eq!(deck.complete(2, 0, 64), Ok(112));
+        deck.header.fill(UNTOUCHED);
+        let before = deck.session.clone();
+        for (ticket, status, length, refusal) in [
+            (2, 1, 65, Refusal::NotPending),
+            (3, 0, 0, Refusal::NotPending),
+            (0, 0, 0, Refusal::NotPending),
+            ((1 << 32) + 1, 0, 0, Refusal::NotPending),
+            (1, 1, 65, Refusal::PositiveStatus),
+            (1, i32::MAX, 0, Refusal::PositiveStatus),
+            (1, 0, 65, Refusal::ActualLength),
+            (1, -1, u32::MAX, Refusal::ActualLength),
+        ] {
+            assert_eq!(deck.complete(ticket, status, length), Err(refusal));
+        }
+        assert_eq!(deck.session, before);
+        assert_eq!(deck.header, [UNTOUCHED; HEADER_SIZE]);
+        assert_eq!(deck.complete(1, i32::MIN, 64), Ok(112));
+    }
+
+    #[test]
+    fn no_ticket_is_pending_while_waiting() {
+        let mut deck = Deck::waiting(tape::table());
+        assert_eq!(deck.complete(1, 0, 0), Err(Refusal::NotPending));
+    }
+
+    #[test]
+    fn short_data_for_in_only() {
+        let mut deck = Deck::with_pending(1);
+        deck.feed(&[&intr_out(2).header()[..], &[0; 64]].concat());
+        let mut header = [UNTOUCHED; HEADER_SIZE];
+        let session = &mut deck.session;
+        let short = session.complete(1, 0, 64, &[0; 63], &mut header);
+        assert_eq!(short, Err(Refusal::ShortData));
+        assert_eq!(session.complete(2, 0, 64, &[], &mut header), Ok(48));
+        let just = session.complete(1, 0, 64, &[0; 64], &mut header);
+        assert_eq!(just, Ok(112));
+    }
+
+    #[test]
+    fn the_last_ticket_is_given_and_then_none() {
+        let mut deck = Deck::attached();
+        deck.session.accepted = u64::MAX - 1;
+        assert_eq!(deck.accept(&intr_in(1)), u64::MAX);
+        assert_eq!(deck.answer(&intr_in(2)), -12);
+        assert_eq!(deck.complete(u64::MAX, 0, 0), Ok(48));
+        assert_eq!(deck.answer(&intr_in(2)), -12);
+    }
+
+    #[test]
+    fn answers_come_in_order() {
+        let mut deck = Deck::with_pending(32);
+        let mut submit = CmdSubmit {
+            devid: DEVID ^ 1,
+            ep: 16,
+            ..intr_in(33)
+        };
+        assert_eq!(deck.answer(&submit), -19);
+        submit.devid = DEVID;
+        assert_eq!(deck.answer(&submit), -22);
+        submit.ep = 15;
+        assert_eq!(deck.answer(&submit), -12);
+    }
+}
+
+mod breaks {
+    use super::*;
+
+    #[test]
+    fn requests_break_with_their_8th_byte() {
+        let both = bytes("0110 8004 00000000");
+        let code = bytes("0111 8004 00000000");
+        for (request, reason) in [(both, Break::Version), (code, Break::Code)] {
+            let mut deck = Deck::waiting(tape::table());
+            assert_eq!(deck.feed(&request[..7]).event, Event::Hungry);
+            let fed = deck.feed(&[request[7], 1, 2, 3]);
+            let dropped = vec![];
+            assert_eq!((fed.consumed, fed.length), (1, 0));
+            assert_eq!(fed.event, Event::Broken { reason, dropped });
+            assert!(deck.session.is_closed());
+        }
+    }
+
+    #[test]
+    fn the_status_of_a_request_is_ignored() {
+        let mut deck = Deck::waiting(tape::table());
+        let fed = deck.feed(&bytes("0111 8005 ffffffff"));
+        assert_eq!(fed.event, Event::List);
+    }
+
+    #[test]
+    fn submits_break_lowest_number_first() {
+        let worst = CmdSubmit {
+            seqnum: 1,
+            direction: 2,
+            transfer_buffer_length: u32::MAX,
+            number_of_packets: 1,
+            ..intr_in(1)
+        };
+        let mut header = worst.header();
+        header[0] = 1;
+        let mut cases = vec![(header, Break::Command), (worst.header(), Break::Direction)];
+        let mut submit = worst;
+        submit.direction = USBIP_DIR_OUT;
+        cases.push((submit.header(), Break::TransferBufferLength));
+        submit.transfer_buffer_length = 16_384;
+        cases.push((submit.header(), Break::NumberOfPackets));
+        submit.number_of_packets = NOT_ISOCHRONOUS;
+        cases.push((submit.header(), Break::Seqnum));
+        for (header, reason) in cases {
+            let mut deck = Deck::with_pending(3);
+            assert_eq!(deck.feed(&header[..47]).event, Event::Hungry);
+            let fed = deck.feed(&[header[47], 1, 2, 3]);
+            let dropped = vec![1, 2, 3];
+            assert_eq!((fed.consumed, fed.length), (1, 0));
+            assert_eq!(fed.event, Event::Broken { reason, dropped });
+            assert_eq!(deck.numbers(), [3, 0, 0, 0, 3]);
+            assert_eq!(deck.reply, [UNTOUCHED; LEAST_REPLY]);
+            assert_eq!(deck.work, [UNTOUCHED; LEAST_WORK]);
+        }
+    }
+
+    #[test]
+    fn all_32_bits_of_a_direction_count() {
+        for direction in [2, 0x100, 0x0100_0000, u32::MAX] {
+            let submit = with(|submit| submit.direction = direction);
+            let broken = Deck::attached().breaks(&submit.header());
+            assert_eq!(broken, (Break::Direction, vec![]));
+        }
+    }
+
+    #[test]
+    fn a_list_request_once_attached_breaks_at_its_48th_byte() {
+        let mut deck = Deck::attached();
+        let requests = op_req_devlist().repeat(6);
+        assert_eq!(deck.feed(&requests[..47]).event, Event::Hungry);
+        let broken = deck.breaks(&requests[47..]);
+        assert_eq!(broken, (Break::Command, vec![]));
+    }
+
+    #[test]
+    fn unlinks_never_break() {
+        let mut deck = Deck::with_pending(1);
+        let mut header = [0xff; HEADER_SIZE];
+        header[..8].copy_from_slice(&bytes("00000002 00000001"));
+        header[20..24].copy_from_slice(&bytes("00000001"));
+        let fed = deck.feed(&header);
+        let (seqnum, status, removed) = (1, -104, Some(1));
+        let event = Event::Unlink {
+            seqnum,
+            status,
+            removed,
+        };
+        assert_eq!(fed.event, event);
+    }
+}
+
+mod streams {
+    use super::*;
+
+    #[test]
+    fn a_feed_stops_at_the_first_messages_end() {
+        let mut deck = Deck::attached();
+        let message = [&intr_out(1).header()[..], &[7; 64]].concat();
+        let fed = deck.feed(&message.repeat(2));
+        assert_eq!(fed.consumed, 112);
+        assert!(matches!(fed.event, Event::Accepted(_)));
+    }
+
+    #[test]
+    fn a_full_list_reads_out_data_before_it_says_so() {
+        let mut deck = Deck::with_pending(32);
+        let message = [&intr_out(33).header()[..], &[7; 64]].concat();
+        let (seqnum, status) = (33, -12);
+        assert_eq!(deck.feed(&message[..60]).event, Event::Hungry);
+        let fed = deck.feed(&message[60..]);
+        assert_eq!((fed.consumed, fed.length), (52, 48));
+        assert_eq!(fed.event, Event::RefusedSubmit { seqnum, status });
+        assert_eq!(deck.work[..65], [&[7; 64][..], &[UNTOUCHED]].concat());
+        assert_eq!(deck.unlink(34, 5), (-104, Some(5)));
+    }
+
+    #[test]
+    fn a_completion_within_out_data_makes_room() {
+        let mut deck = Deck::with_pending(32);
+        deck.feed(&intr_out(33).header());
+        deck.feed(&[1; 10]);
+        assert_eq!(deck.complete(1, 0, 0), Ok(48));
+        let fed = deck.feed(&[2; 54]);
+        assert!(matches!(fed.event, Event::Accepted(Urb { ticket: 33, .. })));
+        assert_eq!(deck.work[..64], [&[1; 10][..], &[2; 54]].concat());
+    }
+
+    #[test]
+    fn a_changed_work_buffer_changes_only_that_data() {
+        let mut deck = Deck::attached();
+        deck.feed(&intr_out(1).header());
+        deck.feed(&[1; 32]);
+        deck.work.fill(9);
+        deck.feed(&[2; 32]);
+        assert_eq!(deck.work[..65], [&[9; 32][..], &[2; 32], &[9]].concat());
+        assert_eq!(deck.session.pending()[0].seqnum, 1);
+    }
+
+    #[test]
+    fn a_seqnum_is_tested_when_the_48th_byte_comes() {
+        let mut deck = Deck::with_pending(1);
+        let message = [&intr_out(1).header()[..], &[7; 64]].concat();
+        deck.feed(&message[..47]);
+        deck.complete(1, 0, 0).unwrap();
+        let fed = deck.feed(&message[47..]);
+        assert!(matches!(fed.event, Event::Accepted(_)));
+    }
+
+    #[test]
+    fn a_close_forgets_the_message_in_progress() {
+        let mut deck = Deck::with_pending(2);
+        deck.feed(&intr_out(3).header());
+        assert_eq!(deck.session.close(), Ok(vec![1, 2]));
+        assert_eq!(deck.numbers(), [2, 0, 0, 0, 2]);
+    }
+
+    #[test]
+    fn import_finds_the_device_whose_whole_busid_matches() {
+        let mut table = tape::table();
+        table.push(Device::new("/deck/1-10", "1-10", 1, 16));
+        table.push(Device::new("/deck/2-1", "2-1", 2, 15));
+        let mut deck = Deck::waiting(table.clone());
+        deck.feed(&op_req_import_of("2-1"));
+        assert_eq!(deck.answer(&intr_in(1)), -19);
+        deck.accept(&with(|submit| submit.devid = 0x0002_000f));
+
+        let mut padding = op_req_import_of("1-1");
+        padding[39] = 1;
+        let mut deck = Deck::waiting(table.clone());
+        let fed = deck.feed(&padding);
+        assert_eq!(fed.event, Event::Import { status: 1 });
+
+        let mut deck = Deck::waiting(table.clone());
+        let fed = deck.feed(&op_req_devlist());
+        assert_eq!(fed.length, 12 + 3 * 312);
+        assert_eq!(deck.reply[..fed.length], op_rep_devlist(&table));
+    }
+
+    /// Events other than hungry, with the replies.
+    fn events(stream: &[u8], cut: usize) -> (Vec<(Event, Vec<u8>)>, Session) {
+        let mut deck = Deck::waiting(tape::table());
+        let mut events = Vec::new();
+        for mut piece in [&stream[..cut], &stream[cut..]] {
+            while !piece.is_empty() && !deck.session.is_closed() {
+                let fed = deck.feed(piece);
+                piece = &piece[fed.consumed..];
+                if fed.event != Event::Hungry {
+                    events.push((fed.event, deck.reply[..fed.length].to_vec()));
+                }
+            }
+        }
+        (events, deck.session)
+    }
+
+    #[test]
+    fn a_stream_may_be_cut_anywhere() {
+        let mut stream = op_req_import_of("1-1");
+        stream.extend(intr_out(1).header());
+        stream.extend([7; 64]);
+        stream.extend(intr_in(2).header());
+        stream.extend(with(|submit| submit.ep = 16).header());
+        stream.extend(CmdUnlink::default().header());
+        stream.extend(intr_in(2).header());
+        let whole = events(&stream, 0);
+        assert_eq!(whole.0.len(), 6);
+        for cut in 0..=stream.len() {
+            assert_eq!(events(&stream, cut), whole, "cut at {cut}");
+        }
+    }
+}
+
+mod tickets {
+    use super::*;
+
+    #[test]
+    fn a_completion_answers_its_own_ticket() {
+        let mut deck = Deck::with_pending(3);
+        assert_eq!(deck.complete(2, 0, 8), Ok(56));
+        let left: Vec<u32> = deck.session.pending().iter().map(|u| u.seqnum).collect();
+        assert_eq!(left, [1, 3]);
+        assert_eq!(deck.header[4..8], [0, 0, 0, 2]);
+    }
+
+    #[test]
+    fn a_late_picture_meets_no_reused_seqnum() {
+        let mut deck = Deck::attached();
+        deck.accept(&intr_in(5));
+        deck.unlink(6, 5);
+        assert_eq!(deck.accept(&intr_in(5)), 2);
+        assert_eq!(deck.complete(1, 0, 64), Err(Refusal::NotPending));
+        assert_eq!(deck.complete(2, 0, 64), Ok(112));
+        assert_eq!(deck.numbers(), [2, 0, 1, 1, 0]);
+    }
+
+    #[test]
+    fn a_refused_submit_uses_up_no_ticket() {
+        let mut deck = Deck::with_pending(1);
+        deck.answer(&with(|submit| submit.devid = 0));
+        assert_eq!(deck.accept(&intr_in(2)), 2);
+    }
+
+    #[test]
+    fn a_header_has_its_submits_frame_and_packets_and_48_bytes() {
+        let mut deck = Deck::attached();
+        deck.accept(&with(|submit| {
+            submit.start_frame = 0x0102_0304;
+            submit.number_of_packets = NOT_ISOCHRONOUS;
+            submit.interval = 9;
+            submit.setup = [9; 8];
+        }));
+        let mut header = [UNTOUCHED; 49];
+        let result = deck.session.complete(1, -32, 3, &[0; 3], &mut header);
+        assert_eq!(result, Ok(51));
+        let mut words = bytes(
+            "00000003 00000064 00000000 00000000 00000000 ffffffe0 00000003 01020304 ffffffff",
+        );
+        words.resize(48, 0);
+        assert_eq!(header[..48], words);
+        assert_eq!(header[48], UNTOUCHED);
+    }
+}

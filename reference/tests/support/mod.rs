@@ -1,0 +1,4 @@
+//! What the comparison needs besides its cases.
+
+pub mod coverage;
+pub mod programs;
