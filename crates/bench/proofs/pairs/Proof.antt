@@ -1,0 +1,55 @@
+use borrow.Author.Needs.{needs}
+use Prim.Native.Nat.{_≤_, _-_}
+use mathlib.Core.Path.{_≡_}
+use lib.ListN.{length}
+use Rattle.bench.proofs.pairs.Statement.{statement}
+use Rattle.bench.proofs.pairs.Tie as tie
+
+abbrev Inv-loop : tie.InvT-loop
+Inv-loop rounds first second work₀ reply₀ t₀ sum₀ i₀ work reply t sum i = (i ≤ rounds) × (length work ≡ length work₀) × (length reply ≡ length reply₀)
+
+abbrev μ-loop : tie.MeasureT-loop
+μ-loop rounds first second work₀ reply₀ t₀ sum₀ i₀ work reply t sum i = rounds - i
+
+loop-holds : tie.Need-loop-holds Inv-loop μ-loop
+loop-holds c = search needs
+
+add-i : tie.Need-add-i Inv-loop μ-loop
+add-i c = search needs
+
+pair-requires : tie.Need-pair-requires Inv-loop μ-loop
+pair-requires c κs = search needs
+
+more-requires : tie.Need-more-requires Inv-loop μ-loop
+more-requires c κs = search needs
+
+loop-less : tie.Need-loop-less Inv-loop μ-loop
+loop-less c = search needs
+
+loop-again : tie.Need-loop-again Inv-loop μ-loop
+loop-again c = search needs
+
+same-length : tie.Need-same-length Inv-loop μ-loop
+same-length c = search needs
+
+same-length-2 : tie.Need-same-length-2 Inv-loop μ-loop
+same-length-2 c = search needs
+
+returns : tie.Need-returns Inv-loop μ-loop
+returns c = search needs
+
+pub pairs-spec : {M : Type 1} → statement M
+pairs-spec =
+    tie.close
+    (tie.spec
+    Inv-loop
+    μ-loop
+    loop-holds
+    add-i
+    pair-requires
+    more-requires
+    loop-less
+    loop-again
+    same-length
+    same-length-2
+    returns)
