@@ -197,7 +197,7 @@ used-bytes (x ∷ xs) s lent =
     by-test (λ (r : Fed Sess Event Buffers). r .used ≤ suc (length xs)) (λ _. omega (arith, used-bytes xs (grow s x) (put s x lent))) (λ _. omega arith)
 
 -- no more than there is
-used-feed : (s : Sess) (lent : Buffers) (p : List ℕ) → feedOf s lent p .used ≤ length p
+pub used-feed : (s : Sess) (lent : Buffers) (p : List ℕ) → feedOf s lent p .used ≤ length p
 unfolding feedOf
 used-feed s lent p =
     by-first (λ (r : Fed Sess Event Buffers). r .used ≤ length p) (first (feedTests s lent)) (λ n h. omega arith) (λ h. used-bytes p s lent)

@@ -1,0 +1,84 @@
+// A record of a tape, played on a session.
+use crate::feed::play_stream;
+use crate::text::put_completion;
+use lines::replay::close_lines;
+use session::state::Session;
+use tape::reader::Record;
+use tape::reader::stream_bytes;
+use tape::table::device_data;
+use wire::codes::HEADER_LEN;
+ghost use Rattle.model.specs.Model.{Buffers};
+ghost use Rattle.model.specs.Cut.{lent};
+ghost use Rattle.session.specs.Views.{viewOf};
+ghost use Rattle.player.specs.Play.{playCompletion, playClose, playRecord};
+ghost use Rattle.player.specs.Played.{Plays};
+
+// The next session, and how many bytes of lines were put.
+pub struct Played {
+    pub session: Session,
+    pub len: usize,
+}
+
+// The device side is done with a ticket.
+fn play_completion(
+    session: Session,
+    traced: bool,
+    ticket: u64,
+    status: u32,
+    actual: u32,
+    out: &mut [u8],
+) -> Played
+    ensures { λ r. ⌜ ((b : Buffers) → Plays r (playCompletion traced ticket status actual (viewOf session) b) b (now (out .entry)) (now (out .exit))) ⌝ }
+{
+    let frame = device_data();
+    let mut header = [0u8; HEADER_LEN];
+    let done = session.complete(ticket, status, actual, &frame, &mut header);
+    let answer = done.answer;
+    let next = done.session;
+    let len = put_completion(traced, ticket, status, actual, answer, &header, out);
+    Played {
+        session: next,
+        len: len,
+    }
+}
+
+// The session is closed.
+fn play_close(session: Session, out: &mut [u8]) -> Played
+    ensures { λ r. ⌜ ((b : Buffers) → Plays r (playClose (viewOf session) b) b (now (out .entry)) (now (out .exit))) ⌝ }
+{
+    let closed = session.close();
+    let answer = closed.answer;
+    let dropped = closed.dropped;
+    let next = closed.session;
+    let len = close_lines(answer, dropped, out);
+    Played {
+        session: next,
+        len: len,
+    }
+}
+
+// Plays a record, whose bytes these are, and puts its lines at the front of the output; traced: with every byte visible.
+pub fn play_record(
+    session: Session,
+    traced: bool,
+    r: Record,
+    bytes: &[u8],
+    work: &mut [u8],
+    reply: &mut [u8],
+    out: &mut [u8],
+) -> Played
+    ensures { λ p. ⌜ Plays p (playRecord traced r (now (bytes .entry)) (viewOf session) (lent (now (work .entry)) (now (reply .entry)))) (lent (now (work .exit)) (now (reply .exit))) (now (out .entry)) (now (out .exit)) ⌝ }
+{
+    match r {
+        Record::Stream(count) => {
+            let stream = stream_bytes(bytes, count);
+            play_stream(session, traced, stream, work, reply, out)
+        }
+        Record::Completion {
+            ticket,
+            status,
+            actual,
+        } => play_completion(session, traced, ticket, status, actual, out),
+        Record::Close => play_close(session, out),
+    }
+}

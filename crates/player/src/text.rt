@@ -1,0 +1,103 @@
+// The lines of one act: those of `replay`, and behind them those that `trace` adds.
+use lines::replay::complete_line;
+use lines::replay::feed_lines;
+use lines::trace::trace_data;
+use lines::trace::trace_feed;
+use lines::trace::trace_header;
+use lines::trace::trace_record;
+use lines::trace::trace_removed;
+use pending::urb::Transfer;
+use session::answer::Answer;
+use session::answer::Completion;
+use session::answer::Event;
+use wire::codes::DIR_OUT;
+use wire::codes::SETUP_LEN;
+ghost use mathlib.Core.Path.{_≡_};
+ghost use lib.ListN.{take};
+ghost use Rattle.session.specs.Views.{eventOf, completionOf};
+ghost use Rattle.player.specs.Play.{Puts, dataLength, submitText, besideText, tracedText, feedText, completionText};
+
+// The first n bytes, or as many as there are.
+pub(crate) fn front(bytes: &[u8], n: usize) -> &[u8]
+    ensures { λ r. ⌜ now r ≡ take n (now (bytes .entry)) ⌝ }
+{
+    if bytes.len() < n {
+        return bytes;
+    }
+    &bytes[0..n]
+}
+
+// How many bytes of data came with a submit.
+fn data_len(direction: u32, length: u32) -> usize
+    ensures { λ r. ⌜ r ≡ dataLength direction length ⌝ }
+{
+    if direction == DIR_OUT {
+        return length as usize;
+    }
+    0
+}
+
+// What a trace adds for an accepted submit: its record, and its data.
+fn put_submit(u: Transfer, setup: [u8; SETUP_LEN], work: &[u8], out: &mut [u8]) -> usize
+    ensures { λ n. ⌜ Puts (submitText (record { transfer = u; setup = setup }) (now (work .entry))) (now (out .entry)) (now (out .exit)) n ⌝ }
+{
+    let n = trace_record(u, setup, out);
+    let size = data_len(u.direction, u.length);
+    n + trace_data(front(work, size), &mut out[n..])
+}
+
+// What a trace adds for an event: besides, the ticket that an unlink removed.
+fn put_beside(a: Answer, work: &[u8], out: &mut [u8]) -> usize
+    ensures { λ n. ⌜ Puts (besideText (eventOf (a .event) (a .setup) (a .dropped)) (now (work .entry))) (now (out .entry)) (now (out .exit)) n ⌝ }
+{
+    let event = a.event;
+    let setup = a.setup;
+    match event {
+        Event::Submit(u) => put_submit(u, setup, work, out),
+        Event::Unlink(_, _, t) => trace_removed(t, out),
+        Event::Hungry => 0,
+        Event::List => 0,
+        Event::Import(_) => 0,
+        Event::Answer(_, _) => 0,
+        Event::Break(_) => 0,
+        Event::Refused(_) => 0,
+    }
+}
+
+// What a trace adds for a feed: what it consumed and replied, and what goes with its event.
+fn put_traced(a: Answer, work: &[u8], reply: &[u8], out: &mut [u8]) -> usize
+    ensures { λ n. ⌜ Puts (tracedText (eventOf (a .event) (a .setup) (a .dropped)) (a .consumed) (a .length) (now (work .entry)) (now (reply .entry))) (now (out .entry)) (now (out .exit)) n ⌝ }
+{
+    let n = trace_feed(a.consumed, a.length, front(reply, a.length), out);
+    n + put_beside(a, work, &mut out[n..])
+}
+
+// The lines of a feed.
+pub(crate) fn put_feed(traced: bool, a: Answer, work: &[u8], reply: &[u8], out: &mut [u8]) -> usize
+    ensures { λ n. ⌜ Puts (feedText traced (eventOf (a .event) (a .setup) (a .dropped)) (a .consumed) (a .length) (now (work .entry)) (now (reply .entry))) (now (out .entry)) (now (out .exit)) n ⌝ }
+{
+    let n = feed_lines(a, out);
+    if traced {
+        return n + put_traced(a, work, reply, &mut out[n..]);
+    }
+    n
+}
+
+// The lines of a completion, with what the device side handed over and the header that it left.
+pub(crate) fn put_completion(
+    traced: bool,
+    ticket: u64,
+    status: u32,
+    actual: u32,
+    answer: Completion,
+    header: &[u8],
+    out: &mut [u8],
+) -> usize
+    ensures { λ n. ⌜ Puts (completionText traced ticket status actual (completionOf answer) (now (header .entry))) (now (out .entry)) (now (out .exit)) n ⌝ }
+{
+    let n = complete_line(ticket, status, actual, answer, out);
+    if traced {
+        return n + trace_header(answer, header, &mut out[n..]);
+    }
+    n
+}
