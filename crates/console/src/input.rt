@@ -1,0 +1,50 @@
+// The tape as it comes in: a window of it in a buffer.
+use libc::STDIN_FILENO;
+use tape::layout::MAX_RECORD_LEN;
+ghost use Prim.Native.Nat.{_+_, _≤_};
+ghost use lib.ListN.{length};
+
+// At least the longest record.
+pub(crate) const INPUT_LEN: usize = 65_536;
+
+// The bytes from `at` up to `end` are there; over: the input has ended.
+pub struct Window {
+    pub at: usize,
+    pub end: usize,
+    pub over: bool,
+}
+
+// Moves n bytes from a place to the front.
+fn move_front(buf: &mut [u8], at: usize, n: usize)
+    requires { ⌜ at + n ≤ length (now buf) ⌝ }
+{
+    let mut i: usize = 0;
+    while i < n {
+        buf[i] = buf[at + i];
+        i += 1;
+    }
+}
+
+// Reads on where less than a longest record is there.
+pub(crate) fn refill(buf: &mut [u8], w: Window) -> Window
+    requires { ⌜ (w .at ≤ w .end) × (w .end ≤ length (now buf)) ⌝ }
+    ensures { λ r. ⌜ (r .at ≤ r .end) × (r .end ≤ length (now (buf .exit))) ⌝ }
+{
+    let at = w.at;
+    let left = w.end - at;
+    if w.over {
+        return w;
+    }
+    if MAX_RECORD_LEN <= left {
+        return w;
+    }
+    move_front(buf, at, left);
+    let len = buf.len();
+    let got = io::read_full(STDIN_FILENO, &mut buf[left..len]);
+    let end = left + got;
+    Window {
+        at: 0,
+        end: end,
+        over: end < len,
+    }
+}

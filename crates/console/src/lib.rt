@@ -1,0 +1,84 @@
+// The loop of the programs `replay` and `trace`: a tape from standard input is played record by record, and the lines go to
+// standard output. What a record is, does and prints stands in `tape` and `player`; here is only what reads and writes.
+mod input;
+mod output;
+
+use crate::input::INPUT_LEN;
+use crate::input::Window;
+use crate::input::refill;
+use crate::output::OUTPUT_LEN;
+use crate::output::flush;
+use crate::output::make_room;
+use lines::replay::bad_tape_line;
+use lines::replay::end_line;
+use player::record::play_record;
+use session::state::Session;
+use tape::layout::MAX_RECORDS;
+use tape::reader::Read;
+use tape::reader::read_next;
+use tape::reader::record_len;
+use tape::table::tape_table;
+use verdicts::limits::REPLY_LEN;
+use verdicts::limits::WORK_LEN;
+
+// Plays the records of the tape, and gives the session that they leave.
+fn play_records(
+    session: Session,
+    traced: bool,
+    input: &mut [u8],
+    work: &mut [u8],
+    reply: &mut [u8],
+    out: &mut [u8],
+) -> Session {
+    let mut s = session;
+    let mut window = Window {
+        at: 0,
+        end: 0,
+        over: false,
+    };
+    let mut len: usize = 0;
+    let mut n: usize = 0;
+    while n <= MAX_RECORDS {
+        window = refill(input, window);
+        let at = window.at;
+        let end = window.end;
+        let over = window.over;
+        if at == end {
+            flush(out, len);
+            return s;
+        }
+        let read = read_next(n, &input[at..end]);
+        let Read::Record(r) = read else {
+            flush(out, len);
+            let m = bad_tape_line(out);
+            flush(out, m);
+            return s;
+        };
+        len = make_room(out, len);
+        let played = play_record(s, traced, r, &input[at..end], work, reply, &mut out[len..]);
+        s = played.session;
+        len += played.len;
+        window = Window {
+            at: at + record_len(r),
+            end: end,
+            over: over,
+        };
+        n += 1;
+    }
+    s
+}
+
+// Plays the tape on standard input; traced: with every byte visible.
+pub fn play_tape(traced: bool) {
+    let mut input = [0u8; INPUT_LEN];
+    let mut work = [0u8; WORK_LEN];
+    let mut reply = [0u8; REPLY_LEN];
+    let mut out = [0u8; OUTPUT_LEN];
+    let table = tape_table();
+    let opened = Session::open(table);
+    let fresh = opened.session;
+    let last = play_records(fresh, traced, &mut input, &mut work, &mut reply, &mut out);
+    let numbers = last.numbers();
+    let n = end_line(numbers, &mut out);
+    flush(&out, n);
+}
