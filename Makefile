@@ -1,11 +1,20 @@
 # The two commands of the README.
 .PHONY: run test
 
-# Proves and builds what there is, and shows it at work.
+# A tape as text (NAME.txt, see reference/README.md), or as bytes.
+TAPE ?= tapes/late-picture.txt
+
+# Proves and builds the programs, and replays a tape: what it tells, and the lines that the box answers with.
 run:
-	@rt check > .run.log 2>&1 || { cat .run.log; rm -f .run.log; exit 1; }
-	@tail -n 1 .run.log; rm -f .run.log
-	@target/bin/demo
+	@mkdir -p target
+	@echo "proving and building (the first time takes some minutes)"
+	@rt check replay trace > target/run.log 2>&1 || { cat target/run.log; exit 1; }
+	@cargo build --quiet --release --offline --manifest-path reference/Cargo.toml
+	@case "$(TAPE)" in \
+	*.txt) sed -n 's/^# *//p' "$(TAPE)" && echo && \
+	    reference/target/release/assemble < "$(TAPE)" > target/run.tape && target/bin/replay < target/run.tape ;; \
+	*) target/bin/replay < "$(TAPE)" ;; \
+	esac
 
 # The gate: every proof from nothing, every must-fail edit, every test.
 test:

@@ -1,11 +1,12 @@
 // The tape as it comes in: a window of it in a buffer.
 use libc::STDIN_FILENO;
 use tape::layout::MAX_RECORD_LEN;
+use tape::reader::wanted;
 ghost use Prim.Native.Nat.{_+_, _≤_};
 ghost use lib.ListN.{length};
 
-// At least the longest record.
-pub(crate) const INPUT_LEN: usize = 65_536;
+// Some of the longest records.
+pub(crate) const INPUT_LEN: usize = 4 * MAX_RECORD_LEN;
 
 // The bytes from `at` up to `end` are there; over: the input has ended.
 pub struct Window {
@@ -25,26 +26,27 @@ fn move_front(buf: &mut [u8], at: usize, n: usize)
     }
 }
 
-// Reads on where less than a longest record is there.
+// Reads on where the record at the front isn't all there.
 pub(crate) fn refill(buf: &mut [u8], w: Window) -> Window
     requires { ⌜ (w .at ≤ w .end) × (w .end ≤ length (now buf)) ⌝ }
     ensures { λ r. ⌜ (r .at ≤ r .end) × (r .end ≤ length (now (buf .exit))) ⌝ }
 {
     let at = w.at;
-    let left = w.end - at;
+    let end = w.end;
+    let left = end - at;
     if w.over {
         return w;
     }
-    if MAX_RECORD_LEN <= left {
+    if wanted(&buf[at..end]) <= left {
         return w;
     }
     move_front(buf, at, left);
     let len = buf.len();
     let got = io::read_full(STDIN_FILENO, &mut buf[left..len]);
-    let end = left + got;
+    let have = left + got;
     Window {
         at: 0,
-        end: end,
-        over: end < len,
+        end: have,
+        over: have < len,
     }
 }
