@@ -1,3 +1,4 @@
 mod Puts
 mod Streams
 mod Acts
+mod Examples

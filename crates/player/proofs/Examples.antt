@@ -1,0 +1,80 @@
+-- Tapes played by the definitions: 01's example, and how a record's stream bytes are fed.
+use Prim.Native.Nat.{ℕ}
+use Prim.Native.String.{String}
+use mathlib.Core.Path.{_≡_, refl}
+use mathlib.Core.Bool.{Bool, true, false}
+use mathlib.Core.List.{List, [], _∷_, _++_, map}
+use lib.ListN.{length, take, drop, replicate}
+use Rattle.wire.specs.BigEndian.{bytesOf}
+use Rattle.wire.specs.Fields.{joined}
+use Rattle.exports.specs.Rules.{text, goodDevice}
+use Rattle.tables.specs.Tables.{goodTable}
+use Rattle.records.specs.Records.{deviceRecord}
+use Rattle.importing.specs.Imports.{importReply, importRefusal}
+use Rattle.listing.specs.Lists.{listed, listReply}
+use Rattle.verdicts.specs.Limits
+use Rattle.verdicts.specs.Tests.{decide, pick}
+use Rattle.model.specs.Machine.{feed}
+use Rattle.model.specs.Model.{Sess, Buffers, urbOf, bodyOf, submitted, submitting, headed, message, requested, lookedUp, request, judge, replyTo, grow, put, tell, feedOf, completeOf, closeOf, openOf}
+use Rattle.session.specs.Views.{fedOf}
+use Rattle.tape.specs.Tape.{recordBytes}
+use Rattle.tape.specs.Table.{tapeTable}
+use Rattle.tape.specs.declared.reader.Record.{Record}
+use Rattle.tape.specs.declared.reader.Record.the-variants.{Stream, Completion, Close}
+use Rattle.lines.specs.Digits.{ascii, numeral, digits}
+use Rattle.player.specs.Play.{Play, playStream, playRecord}
+
+-- A record and its stream bytes.
+record Item : Type 0 where
+  what : Record
+  stream : List ℕ
+
+abbrev fed : List ℕ → Item
+fed bytes = record { what = Stream (length bytes); stream = bytes }
+
+abbrev act : Record → Item
+act r = record { what = r; stream = [] }
+
+-- What records print, one after the other.
+abbrev shown : Bool → Sess → Buffers → List Item → List ℕ
+shown traced s b [] = []
+shown traced s b (i ∷ is) =
+    let p = playRecord traced (i .what) (recordBytes (i .what) (i .stream)) s b in
+    p .text ++ shown traced (p .next) (p .buffers) is
+
+abbrev printed : Bool → List Item → List ℕ
+printed traced is = shown traced (openOf tapeTable .next) (record { work = replicate Limits.WORK-LEN 0; reply = replicate Limits.REPLY-LEN 0 }) is
+
+abbrev words : List ℕ → List ℕ
+words ws = joined (bytesOf 4) ws
+
+abbrev list : List ℕ
+list = words (0x01118005 ∷ 0 ∷ [])
+
+abbrev import : List ℕ
+import = words (0x01118003 ∷ 0 ∷ 0x312d3100 ∷ 0 ∷ 0 ∷ 0 ∷ 0 ∷ 0 ∷ 0 ∷ 0 ∷ [])
+
+-- 000's CmdIntrIN
+abbrev intrIn : List ℕ
+intrIn = words (1 ∷ 0xd05 ∷ 0x0001000f ∷ 1 ∷ 1 ∷ 0x200 ∷ 64 ∷ 0xffffffff ∷ 0 ∷ 4 ∷ 0 ∷ 0 ∷ [])
+
+abbrev unlink : List ℕ
+unlink = words (2 ∷ 0xd07 ∷ 0x0001000f ∷ 0 ∷ 0 ∷ 0xd05 ∷ 0 ∷ 0 ∷ 0 ∷ 0 ∷ 0 ∷ 0 ∷ [])
+
+abbrev tapes : List (List Item)
+tapes =
+    (fed import ∷ fed intrIn ∷ act (Completion 1 0 64) ∷ act Close ∷ [])
+    -- the rest of a record that closed the session is dropped; another is fed once, and an empty one never
+    ∷ (fed (list ++ list) ∷ fed [] ∷ fed (1 ∷ []) ∷ [])
+    -- several messages in a record, and one cut over two
+    ∷ (fed (import ++ take 20 intrIn) ∷ fed (drop 20 intrIn ++ unlink) ∷ [])
+    ∷ []
+
+pub examples :
+    map (printed false) tapes
+    ≡ ascii "import 0\nsubmit 1 3333\nreturn 1 0 64\nclosed\n"
+    ∷ ascii "list\nrefused 3\n"
+    ∷ ascii "import 0\nsubmit 1 3333\nunlink 3335 -104\n"
+    ∷ []
+unfolding text goodDevice goodTable deviceRecord listed listReply importReply importRefusal decide pick feed urbOf bodyOf submitted submitting headed message requested lookedUp request judge replyTo grow put tell feedOf completeOf closeOf openOf fedOf tapeTable numeral digits playStream
+examples = refl
