@@ -7,9 +7,10 @@ use reference::random::Random;
 use reference::table::{self, BUSID_SIZE, MAX_DEVICES};
 
 type Busid = [u8; BUSID_SIZE];
+type Change = fn(&mut Busid);
 
 /// A busid that is like another one up to its zero or its end.
-const LIKE: [(&str, fn(&mut Busid)); 6] = [
+const LIKE: [(&str, Change); 6] = [
     ("as it is", |_| {}),
     ("differs behind its zero", |busid| busid[31] = 1),
     ("shorter", |busid| {

@@ -1,6 +1,6 @@
 // What the package agreement asks of the engine, to compare with reference: C functions over numbers and byte slices, each a
 // call of one operation that is proved elsewhere. Here only arguments are taken from bytes and answers given as numbers, so
-// that no function has a contract.
+// that none of the C functions has a contract.
 mod blocks;
 pub mod flat;
 
