@@ -252,7 +252,7 @@ impl Session {
 
     fn import(&mut self) -> Answer {
         let busid = &self.head[OP_COMMON_SIZE..];
-        let device = self.table.iter().find(|device| device.busid == busid);
+        let device = table::find(&self.table, busid).map(|index| &self.table[index]);
         let (state, status) = match device {
             Some(device) => {
                 let devid = device.devid();
@@ -303,14 +303,7 @@ impl Session {
 
     /// Accepts or answers a submit whose last byte is in.
     fn judge(&mut self, submit: &CmdSubmit, devid: u32) -> Answer {
-        let full = self.pending.len() == MAX_PENDING || self.accepted == u64::MAX;
-        let status = if submit.devid != devid {
-            -ENODEV
-        } else if submit.ep > MAX_EP {
-            -EINVAL
-        } else if full {
-            -ENOMEM
-        } else {
+        let Some(status) = refuses_submit(submit, devid, self.pending.len(), self.accepted) else {
             return self.accept(submit);
         };
         let seqnum = submit.seqnum;
@@ -396,6 +389,25 @@ impl Session {
         work[self.received..end].copy_from_slice(data);
         self.received = end;
         self.received == size
+    }
+}
+
+/// The status of a submit that isn't accepted: by the devid that is attached, and how many URBs are
+/// pending and were ever accepted.
+pub fn refuses_submit(
+    submit: &CmdSubmit,
+    devid: u32,
+    pending: usize,
+    accepted: u64,
+) -> Option<i32> {
+    if submit.devid != devid {
+        Some(-ENODEV)
+    } else if submit.ep > MAX_EP {
+        Some(-EINVAL)
+    } else if pending == MAX_PENDING || accepted == u64::MAX {
+        Some(-ENOMEM)
+    } else {
+        None
     }
 }
 

@@ -83,6 +83,11 @@ pub fn follows_rules(devices: &[Device]) -> bool {
         })
 }
 
+/// The first device whose busid bytes all match.
+pub fn find(devices: &[Device], busid: &[u8]) -> Option<usize> {
+    devices.iter().position(|device| device.busid == busid)
+}
+
 /// The text and then zeros.
 pub fn padded<const SIZE: usize>(text: &[u8]) -> [u8; SIZE] {
     let mut name = [0; SIZE];

@@ -1,65 +1,17 @@
-// What a benchmark runs: one session over a table of one device, which imports it and then takes the same messages again and
+// What a benchmark runs: one session over the tape's table, which imports it and then takes the same messages again and
 // again. The functions answer a number that depends on every round, so that no round can be left out.
-use exports::device::Device;
-use exports::device::Interface;
-use exports::device::MAX_DEVICES;
-use exports::device::MAX_INTERFACES;
-use exports::device::PATH_LEN;
-use exports::device::Table;
 use session::answer::Completion;
 use session::answer::Event;
 use session::state::Session;
-use wire::codes::BUSID_LEN;
-use wire::writing::write;
+use tape::table::tape_table;
 ghost use Prim.Native.Nat.{_≤_};
 
 // Sums are kept below twice this, so that none overflows.
 const MODULUS: u64 = 0x1_0000_0000;
 
-fn path() -> [u8; PATH_LEN] {
-    let mut path = [0u8; PATH_LEN];
-    write(&mut path, b"/deck/1-1");
-    path
-}
-
-fn busid() -> [u8; BUSID_LEN] {
-    let mut busid = [0u8; BUSID_LEN];
-    write(&mut busid, b"1-1");
-    busid
-}
-
-fn device() -> Device {
-    let interface = Interface {
-        bInterfaceClass: 0,
-        bInterfaceSubClass: 0,
-        bInterfaceProtocol: 0,
-    };
-    Device {
-        path: path(),
-        busid: busid(),
-        busnum: 1,
-        devnum: 15,
-        speed: 0,
-        idVendor: 0,
-        idProduct: 0,
-        bcdDevice: 0,
-        bDeviceClass: 0,
-        bDeviceSubClass: 0,
-        bDeviceProtocol: 0,
-        bConfigurationValue: 0,
-        bNumConfigurations: 0,
-        bNumInterfaces: 0,
-        interfaces: [interface; MAX_INTERFACES],
-    }
-}
-
 // A session that has taken the import request.
 fn attached(import: &[u8], work: &mut [u8], reply: &mut [u8]) -> Session {
-    let d = device();
-    let table = Table {
-        devices: [d; MAX_DEVICES],
-        count: 1,
-    };
+    let table = tape_table();
     let opened = Session::open(table);
     let s = opened.session;
     let fed = s.feed(import, work, reply);

@@ -1,0 +1,202 @@
+//! Completions with a header buffer and device data of any length, each number at its limits.
+
+use agreement::client::{submit, unlink, with_data};
+use agreement::engine::{self, Completion};
+use agreement::reached::Reached;
+use agreement::{answers, tables};
+use reference::random::Random;
+use reference::table::Device;
+use reference::wire::{op_req_import, CmdSubmit, USBIP_DIR_IN, USBIP_DIR_OUT};
+
+/// The ticket of the submit under test; the one before it is pending, too, and the one behind it was unlinked.
+const TICKET: u64 = 2;
+
+/// A connection: the stream up to a completion, and what follows it.
+struct Connection {
+    devices: Vec<Device>,
+    before: Vec<u8>,
+    later: Vec<u8>,
+}
+
+/// Attached to the second device, in the middle of an OUT message.
+fn connection(random: &mut Random, direction: u32, length: u32) -> Connection {
+    let devices = tables::table(random, 3);
+    let devid = devices[1].devid();
+    let tested = CmdSubmit {
+        direction,
+        transfer_buffer_length: length,
+        start_frame: random.next_u32(),
+        number_of_packets: random.pick(&[0, u32::MAX]),
+        ..submit(random.next_u32() | 0x10, devid)
+    };
+    let going_on = CmdSubmit {
+        direction: USBIP_DIR_OUT,
+        ..submit(4, devid)
+    };
+    let mut before = op_req_import(&devices[1].busid);
+    before.extend(submit(1, devid).header());
+    before.extend(with_data(&tested, random));
+    before.extend(submit(3, devid).header());
+    before.extend(unlink(5, 3));
+    let mut later = with_data(&going_on, random);
+    before.extend(later.drain(..random.below(112)));
+    // Whether it is pending still.
+    later.extend(unlink(6, tested.seqnum));
+    Connection {
+        devices,
+        before,
+        later,
+    }
+}
+
+/// Compares a completion with every byte of the header buffer, and tells the refusal or 0.
+fn compare(
+    connection: &Connection,
+    completion: &Completion,
+    header: usize,
+    random: &mut Random,
+) -> u32 {
+    let header = random.bytes(header);
+    let (mut header_here, mut header_there) = (header.clone(), header);
+    let Connection {
+        devices,
+        before,
+        later,
+    } = connection;
+    let expected = answers::complete(devices, before, completion, later, &mut header_here);
+    let answer = engine::complete(devices, before, completion, later, &mut header_there);
+    let data = completion.data.len();
+    let case = format!(
+        "{completion:?}, data of {data}, header of {}",
+        header_here.len()
+    );
+    assert_eq!(answer, expected, "{case}");
+    assert_eq!(header_there, header_here, "{case}");
+    expected.refusal
+}
+
+/// Numbers around a limit.
+fn around(limit: u32) -> [u32; 3] {
+    [limit.saturating_sub(1), limit, limit.saturating_add(1)]
+}
+
+fn kind(refusal: u32, direction: u32, completion: &Completion) -> String {
+    let short = completion.data.len() < completion.actual_length as usize;
+    match (refusal, direction) {
+        (0, USBIP_DIR_IN) => "returned IN".to_string(),
+        (0, _) if short => "returned OUT with less data".to_string(),
+        (0, _) => "returned OUT".to_string(),
+        _ => format!("refused {refusal}"),
+    }
+}
+
+#[test]
+fn each_number_at_its_limits() {
+    let mut random = Random::new(61);
+    let frame = random.bytes(20_000);
+    let mut reached = Reached::default();
+    for direction in [USBIP_DIR_IN, USBIP_DIR_OUT] {
+        for length in [0, 1, 64, 16_384] {
+            let connection = connection(&mut random, direction, length);
+            for ticket in [TICKET, 0, 1, 3, 4, TICKET + (1 << 32), u64::MAX] {
+                for status in [0, -1, -104, i32::MIN, 1, i32::MAX] {
+                    for actual in [&[0, 1, 16_385, u32::MAX][..], &around(length)].concat() {
+                        for data in [&[0][..], &around(actual.min(16_385))].concat() {
+                            let completion = Completion {
+                                ticket,
+                                status,
+                                actual_length: actual,
+                                data: &frame[..data as usize],
+                            };
+                            for header in [48, 49, 47, 0] {
+                                let refusal =
+                                    compare(&connection, &completion, header, &mut random);
+                                reached.add(kind(refusal, direction, &completion));
+                            }
+                        }
+                    }
+                }
+            }
+        }
+    }
+    reached.expect_exactly(&[
+        "returned IN",
+        "returned OUT",
+        "returned OUT with less data",
+        "refused 1",
+        "refused 4",
+        "refused 5",
+        "refused 6",
+        "refused 7",
+    ]);
+}
+
+#[test]
+fn header_buffers_of_every_length() {
+    let mut random = Random::new(62);
+    let mut reached = Reached::default();
+    let connection = connection(&mut random, USBIP_DIR_IN, 64);
+    let frame = random.bytes(64);
+    for header in 0..=100 {
+        for actual_length in [0, 64] {
+            let completion = Completion {
+                ticket: TICKET,
+                status: 0,
+                actual_length,
+                data: &frame,
+            };
+            let refusal = compare(&connection, &completion, header, &mut random);
+            let short = if header < 48 { "short" } else { "long enough" };
+            reached.add(format!("{short}: {refusal}"));
+        }
+    }
+    reached.expect_exactly(&["short: 1", "long enough: 0"]);
+}
+
+#[test]
+fn sessions_that_are_not_attached() {
+    let mut random = Random::new(63);
+    let mut reached = Reached::default();
+    let attached = connection(&mut random, USBIP_DIR_IN, 64);
+    let cut = |before: &[u8]| Connection {
+        devices: attached.devices.clone(),
+        before: before.to_vec(),
+        later: attached.before.clone(),
+    };
+    let mut twice = cut(&[]);
+    twice.devices[2].busid = twice.devices[0].busid;
+    let import = &attached.before[..40];
+    for (name, connection) in [
+        ("waiting", cut(&[])),
+        ("waiting within an import", cut(&import[..20])),
+        ("attached with none pending", cut(import)),
+        ("closed by a break", cut(&[import, &[0; 48]].concat())),
+        ("closed by open", twice),
+    ] {
+        for ticket in [0, 1, u64::MAX] {
+            for (status, actual_length) in [(0, 0), (1, 65)] {
+                for header in [0, 47, 48, 49] {
+                    let data = &[];
+                    let completion = Completion {
+                        ticket,
+                        status,
+                        actual_length,
+                        data,
+                    };
+                    let refusal = compare(&connection, &completion, header, &mut random);
+                    reached.add(format!("{name}: {refusal}"));
+                }
+            }
+        }
+    }
+    reached.expect_exactly(&[
+        "waiting: 1",
+        "waiting: 4",
+        "waiting within an import: 1",
+        "waiting within an import: 4",
+        "attached with none pending: 1",
+        "attached with none pending: 4",
+        "closed by a break: 3",
+        "closed by open: 3",
+    ]);
+}

@@ -1,0 +1,2 @@
+-- The layout of a table as bytes.
+pub mod Blocks
