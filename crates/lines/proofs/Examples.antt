@@ -9,8 +9,8 @@ use Rattle.pending.specs.declared.urb.Urb.{Urb}
 use Rattle.session.specs.declared.answer.Removed.the-variants.{Ticket, Nothing}
 use Rattle.session.specs.declared.answer.Completion.the-variants.{Return, Refused}
 use Rattle.model.specs.Model.{Event}
-use Rattle.lines.specs.Digits
-use Rattle.lines.specs.Digits.{ascii}
+use Rattle.numerals.specs.Digits
+use Rattle.numerals.specs.Digits.{ascii}
 use Rattle.lines.specs.Lines.{linesOf, completionLines, endLine}
 use Rattle.lines.specs.Traces.{feedTrace, recordTrace, dataTrace, removedTrace, headerTrace}
 

@@ -1,5 +1,3 @@
--- The laws of digits and of text that grows, and examples of the lines.
-pub mod Digits
+-- A line behind other text, and examples of the lines.
 pub mod Examples
 pub mod Lines
-pub mod Texts

@@ -7,7 +7,7 @@ use lib.ListN.{length}
 use Rattle.session.specs.Views.{removed}
 use Rattle.session.specs.declared.answer.Removed.{Removed}
 use Rattle.session.specs.declared.answer.Removed.the-variants.{Ticket, Nothing}
-use Rattle.lines.specs.Digits.{ascii, decimal, statusText, hexOf}
+use Rattle.numerals.specs.Digits.{ascii, decimal, statusText, hexOf}
 use Rattle.lines.specs.Traces.{hexField}
 use Rattle.lines.specs.Lines.{fields, lineOf, line, linesOf}
 

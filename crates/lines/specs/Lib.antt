@@ -1,5 +1,3 @@
--- What a reader of this crate must believe: numbers as text, and the lines that the programs print.
-pub mod Digits
+-- What a reader of this crate must believe: the lines that the programs print.
 pub mod Lines
-pub mod Texts
 pub mod Traces

@@ -5,7 +5,7 @@ use mathlib.Core.List.{List, [], _∷_, _++_}
 use Rattle.wire.specs.Fields.{joined}
 use Rattle.pending.specs.Pending.{ticketOf, seqnumOf}
 use Rattle.model.specs.Model.{Event, Numbers}
-use Rattle.lines.specs.Digits.{ascii, decimal, statusText}
+use Rattle.numerals.specs.Digits.{ascii, decimal, statusText}
 
 -- A text with more fields, each behind a space.
 abbrev pub fields : List ℕ → List (List ℕ) → List ℕ

@@ -1,5 +1,5 @@
 -- The lines that `trace` adds to those of `replay`: numbers in decimal, bytes in hexadecimal.
-use Prim.Native.Nat.{ℕ}
+use Prim.Native.Nat.{ℕ, _+_, _*_}
 use mathlib.Core.List.{List, [], _∷_, _++_}
 use lib.ListN.{take}
 use Rattle.wire.specs.Codes.{HEADER-LEN}
@@ -9,7 +9,8 @@ use Rattle.session.specs.declared.answer.Removed.{Removed}
 use Rattle.session.specs.declared.answer.Removed.the-variants.{Ticket, Nothing}
 use Rattle.session.specs.declared.answer.Completion.{Completion}
 use Rattle.session.specs.declared.answer.Completion.the-variants.{Return, Refused}
-use Rattle.lines.specs.Digits.{ascii, decimal, hexOf}
+use Rattle.numerals.specs.Digits.{ascii, decimal, hexOf}
+use Rattle.numerals.specs.Texts.{WORD-LEN, FIELD-LEN}
 use Rattle.lines.specs.Lines.{line}
 
 -- Bytes as a field: a dash where there is none.
@@ -34,6 +35,10 @@ numbersOf t =
     ∷ decimal (t .packets)
     ∷ decimal (t .interval)
     ∷ []
+
+-- The most that these take.
+abbrev pub RECORD-LEN : ℕ
+RECORD-LEN = WORD-LEN + 9 * FIELD-LEN
 
 abbrev pub recordTrace : Urb → List ℕ
 recordTrace u = line "record" (numbersOf (u .transfer) ++ (hexField (u .setup) ∷ []))

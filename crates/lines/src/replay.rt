@@ -1,12 +1,12 @@
 // The lines of the program `replay`.
-use crate::text::Text;
-use crate::text::added;
-use crate::text::begun;
-use crate::text::empty;
-use crate::text::ended;
-use crate::text::put;
-use crate::text::with_number;
-use crate::text::with_status;
+use numerals::text::Text;
+use numerals::text::added;
+use numerals::text::begun;
+use numerals::text::empty;
+use numerals::text::ended;
+use numerals::text::put;
+use numerals::text::with_number;
+use numerals::text::with_status;
 use pending::list::MAX_PENDING;
 use pending::list::Tickets;
 use session::answer::Answer;
@@ -22,8 +22,8 @@ ghost use Rattle.wire.specs.Fields.{joined};
 ghost use Rattle.wire.specs.Writing.{Wrote};
 ghost use Rattle.pending.specs.Pending.{MAX-PENDING};
 ghost use Rattle.session.specs.Views.{eventOf, completionOf, closingOf, numbersAs};
-ghost use Rattle.lines.specs.Digits.{decimal, statusText};
-ghost use Rattle.lines.specs.Texts.{TEXT-LEN, WORD-LEN, LINE-LEN, DROPPED-LEN, textOf, Holds};
+ghost use Rattle.numerals.specs.Digits.{decimal, statusText};
+ghost use Rattle.numerals.specs.Texts.{TEXT-LEN, WORD-LEN, LINE-LEN, DROPPED-LEN, textOf, Holds};
 ghost use Rattle.lines.specs.Lines.{lineOf, line, linesOf, completionLines, endLine, badTapeLine};
 ghost use Rattle.lines.specs.Lines.{dropped as droppedLine};
 

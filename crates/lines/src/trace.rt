@@ -1,12 +1,11 @@
 // The lines that the program `trace` adds to those of `replay`.
-use crate::number::PAIR;
-use crate::number::hex;
-use crate::text::Text;
-use crate::text::added;
-use crate::text::begun;
-use crate::text::ended;
-use crate::text::put;
-use crate::text::with_number;
+use numerals::text::Text;
+use numerals::text::added;
+use numerals::text::begun;
+use numerals::text::ended;
+use numerals::text::put;
+use numerals::text::put_bytes;
+use numerals::text::with_number;
 use pending::urb::Transfer;
 use session::answer::Completion;
 use session::answer::Removed;
@@ -14,33 +13,12 @@ use wire::codes::HEADER_LEN;
 use wire::codes::SETUP_LEN;
 use wire::writing::write;
 ghost use Prim.Native.Nat.{_+_, _*_, _≤_};
-ghost use mathlib.Core.List.{[], _∷_, _++_};
+ghost use mathlib.Core.List.{[], _∷_};
 ghost use Rattle.wire.specs.Writing.{Wrote};
-ghost use Rattle.lines.specs.Digits.{ascii, decimal, hexOf};
-ghost use Rattle.lines.specs.Texts.{TEXT-LEN, FIELD-LEN, RECORD-LEN, textOf, Holds};
+ghost use Rattle.numerals.specs.Digits.{ascii, decimal};
+ghost use Rattle.numerals.specs.Texts.{TEXT-LEN, FIELD-LEN, textOf, Holds};
 ghost use Rattle.lines.specs.Lines.{lineOf, fields};
-ghost use Rattle.lines.specs.Traces.{hexField, feedTrace, numbersOf, recordTrace, dataTrace, removedTrace, headerTrace};
-
-// Writes a text, bytes in hexadecimal and a newline at the front of a buffer, if it has room, and answers how many bytes it
-// wrote. (The digits go straight to the buffer: they can be too many for a text.)
-fn put_bytes(t: Text, bytes: &[u8], out: &mut [u8]) -> usize
-    requires { ⌜ t .len ≤ TEXT-LEN ⌝ }
-    ensures { λ n. ⌜ Wrote ((textOf t ++ hexOf (now (bytes .entry))) ++ ascii "\n") (now (out .entry)) (now (out .exit)) n ⌝ }
-{
-    let at = t.len;
-    let room = out.len();
-    if room <= at {
-        return 0;
-    }
-    if (room - at - 1) / PAIR < bytes.len() {
-        return 0;
-    }
-    put(t, out);
-    let n = hex(bytes, &mut out[at..]);
-    let end = at + n;
-    write(&mut out[end..], b"\n");
-    end + 1
-}
+ghost use Rattle.lines.specs.Traces.{RECORD-LEN, hexField, feedTrace, numbersOf, recordTrace, dataTrace, removedTrace, headerTrace};
 
 // A line whose last field is bytes.
 fn put_hex(t: Text, bytes: &[u8], out: &mut [u8]) -> usize

@@ -6,7 +6,7 @@ use Rattle.lines.proofs.replay.close_lines.Lts as lts
 use Rattle.lines.proofs.replay.number_line.Reads as number-line-reads
 use Rattle.lines.proofs.replay.with_dropped.Reads as with-dropped-reads
 use Rattle.lines.proofs.replay.word_line.Reads as word-line-reads
-use Rattle.lines.proofs.text.put.Reads as put-reads
+use Rattle.numerals.proofs.text.put.Reads as put-reads
 
 enum-told : tie.Need-enum-told
 enum-told c = search needs

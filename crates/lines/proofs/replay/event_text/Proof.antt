@@ -1,5 +1,5 @@
 use native.Mathlib.Omega.{arith}
-use Rattle.lines.proofs.Texts.{wider}
+use Rattle.numerals.proofs.Texts.{wider}
 use Rattle.lines.proofs.Lines.{unlink-lines}
 use borrow.Author.Needs.{needs}
 use Rattle.lines.proofs.replay.event_text.Statement.{statement}
@@ -11,7 +11,7 @@ use Rattle.lines.proofs.replay.status_line.Reads as status-line-reads
 use Rattle.lines.proofs.replay.submit_line.Reads as submit-line-reads
 use Rattle.lines.proofs.replay.with_dropped.Reads as with-dropped-reads
 use Rattle.lines.proofs.replay.word_line.Reads as word-line-reads
-use Rattle.lines.proofs.text.empty.Reads as empty-reads
+use Rattle.numerals.proofs.text.empty.Reads as empty-reads
 
 enum-told : tie.Need-enum-told
 enum-told c = search needs

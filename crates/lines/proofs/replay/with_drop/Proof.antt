@@ -1,6 +1,6 @@
 use mathlib.Core.List.{[], _∷_}
-use Rattle.lines.specs.Digits.{ascii, decimal}
-use Rattle.lines.specs.Texts.{textOf}
+use Rattle.numerals.specs.Digits.{ascii, decimal}
+use Rattle.numerals.specs.Texts.{textOf}
 use Rattle.lines.proofs.Lines.{line-behind}
 use native.Mathlib.Omega.{arith}
 use borrow.Author.Needs.{needs}
@@ -8,9 +8,9 @@ use Rattle.lines.proofs.replay.with_drop.Statement.{statement}
 use Rattle.lines.proofs.replay.with_drop.Tie as tie
 use Rattle.lines.proofs.replay.with_drop.Reads as reads
 use Rattle.lines.proofs.replay.with_drop.Lts as lts
-use Rattle.lines.proofs.text.added.Reads as added-reads
-use Rattle.lines.proofs.text.ended.Reads as ended-reads
-use Rattle.lines.proofs.text.with_number.Reads as with-number-reads
+use Rattle.numerals.proofs.text.added.Reads as added-reads
+use Rattle.numerals.proofs.text.ended.Reads as ended-reads
+use Rattle.numerals.proofs.text.with_number.Reads as with-number-reads
 
 slice-aggregate-added : tie.Need-slice-aggregate-added
 slice-aggregate-added c = search needs

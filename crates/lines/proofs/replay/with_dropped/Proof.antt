@@ -2,7 +2,6 @@ use native.Mathlib.Omega.{arith}
 use mathlib.Core.Path.{_≡_, sym, _∙_}
 use lib.ListN.{length, take}
 use lib.Seq.{take-all}
-use Rattle.records.proofs.Records.{unmapped}
 use Rattle.pending.specs.Pending.{MAX-PENDING}
 use borrow.Author.Needs.{needs}
 use Rattle.lines.proofs.replay.with_dropped.Statement.{statement}
@@ -12,7 +11,7 @@ use Rattle.lines.proofs.replay.with_dropped.Lts as lts
 use Rattle.lines.proofs.replay.with_drops.Reads as with-drops-reads
 
 whole : (c : tie.Start) → length (c .args .dropped .tickets) ≡ MAX-PENDING
-whole c = search (unmapped, needs)
+whole c = search needs
 
 with-drops-requires : tie.Need-with-drops-requires
 with-drops-requires c κs = search needs

@@ -7,9 +7,9 @@ use lib.ListN.{length, take, getD}
 use Rattle.wire.specs.Fields.{joined}
 use Rattle.wire.proofs.Parts.{joined-more}
 use Rattle.pending.specs.Pending.{MAX-PENDING}
-use Rattle.lines.specs.Texts.{LINE-LEN, DROPPED-LEN, textOf, Holds}
+use Rattle.numerals.specs.Texts.{LINE-LEN, DROPPED-LEN, textOf, Holds}
 use Rattle.lines.specs.Lines.{dropped}
-use Rattle.lines.proofs.Texts.{added-twice}
+use Rattle.numerals.proofs.Texts.{added-twice}
 use Rattle.lines.proofs.replay.with_drops.Statement.{statement}
 use Rattle.lines.proofs.replay.with_drops.Tie as tie
 use Rattle.lines.proofs.replay.with_drops.Reads as reads

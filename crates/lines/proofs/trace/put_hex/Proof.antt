@@ -1,15 +1,15 @@
 use mathlib.Core.List.{append-assoc}
-use Rattle.lines.specs.Digits.{ascii, hexOf}
-use Rattle.lines.specs.Texts.{textOf}
+use Rattle.numerals.specs.Digits.{ascii, hexOf}
+use Rattle.numerals.specs.Texts.{textOf}
 use Rattle.lines.proofs.Lines.{hex-none, hex-some}
 use borrow.Author.Needs.{needs}
 use Rattle.lines.proofs.trace.put_hex.Statement.{statement}
 use Rattle.lines.proofs.trace.put_hex.Tie as tie
 use Rattle.lines.proofs.trace.put_hex.Reads as reads
 use Rattle.lines.proofs.trace.put_hex.Lts as lts
-use Rattle.lines.proofs.text.added.Reads as added-reads
-use Rattle.lines.proofs.text.put.Reads as put-reads
-use Rattle.lines.proofs.trace.put_bytes.Reads as put-bytes-reads
+use Rattle.numerals.proofs.text.added.Reads as added-reads
+use Rattle.numerals.proofs.text.put.Reads as put-reads
+use Rattle.numerals.proofs.text.put_bytes.Reads as put-bytes-reads
 
 slice-aggregate-added : tie.Need-slice-aggregate-added
 slice-aggregate-added c = search needs

@@ -4,8 +4,8 @@ use Rattle.lines.proofs.trace.record_text.Statement.{statement}
 use Rattle.lines.proofs.trace.record_text.Tie as tie
 use Rattle.lines.proofs.trace.record_text.Reads as reads
 use Rattle.lines.proofs.trace.record_text.Lts as lts
-use Rattle.lines.proofs.text.begun.Reads as begun-reads
-use Rattle.lines.proofs.text.with_number.Reads as with-number-reads
+use Rattle.numerals.proofs.text.begun.Reads as begun-reads
+use Rattle.numerals.proofs.text.with_number.Reads as with-number-reads
 use Rattle.lines.proofs.trace.with_four.Reads as with-four-reads
 
 slice-aggregate-begun : tie.Need-slice-aggregate-begun

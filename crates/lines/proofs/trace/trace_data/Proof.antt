@@ -3,7 +3,7 @@ use Rattle.lines.proofs.trace.trace_data.Statement.{statement}
 use Rattle.lines.proofs.trace.trace_data.Tie as tie
 use Rattle.lines.proofs.trace.trace_data.Reads as reads
 use Rattle.lines.proofs.trace.trace_data.Lts as lts
-use Rattle.lines.proofs.text.begun.Reads as begun-reads
+use Rattle.numerals.proofs.text.begun.Reads as begun-reads
 use Rattle.lines.proofs.trace.put_hex.Reads as put-hex-reads
 
 slice-aggregate-begun : tie.Need-slice-aggregate-begun

@@ -3,14 +3,14 @@ use mathlib.Core.Path.{_≡_}
 use lib.ListN.{take}
 use lib.Seq.{take-all}
 use Rattle.wire.specs.Codes.{HEADER-LEN}
-use Rattle.lines.specs.Digits.{numeral, digits}
+use Rattle.numerals.specs.Digits.{numeral, digits}
 use borrow.Author.Needs.{needs}
 use Rattle.lines.proofs.trace.trace_header.Statement.{statement}
 use Rattle.lines.proofs.trace.trace_header.Tie as tie
 use Rattle.lines.proofs.trace.trace_header.Reads as reads
 use Rattle.lines.proofs.trace.trace_header.Lts as lts
-use Rattle.lines.proofs.text.begun.Reads as begun-reads
-use Rattle.lines.proofs.text.with_number.Reads as with-number-reads
+use Rattle.numerals.proofs.text.begun.Reads as begun-reads
+use Rattle.numerals.proofs.text.with_number.Reads as with-number-reads
 use Rattle.lines.proofs.trace.put_hex.Reads as put-hex-reads
 use Rattle.wire.proofs.writing.write.Reads as write-reads
 

@@ -3,10 +3,10 @@ use Rattle.lines.proofs.trace.trace_removed.Statement.{statement}
 use Rattle.lines.proofs.trace.trace_removed.Tie as tie
 use Rattle.lines.proofs.trace.trace_removed.Reads as reads
 use Rattle.lines.proofs.trace.trace_removed.Lts as lts
-use Rattle.lines.proofs.text.begun.Reads as begun-reads
-use Rattle.lines.proofs.text.ended.Reads as ended-reads
-use Rattle.lines.proofs.text.put.Reads as put-reads
-use Rattle.lines.proofs.text.with_number.Reads as with-number-reads
+use Rattle.numerals.proofs.text.begun.Reads as begun-reads
+use Rattle.numerals.proofs.text.ended.Reads as ended-reads
+use Rattle.numerals.proofs.text.put.Reads as put-reads
+use Rattle.numerals.proofs.text.with_number.Reads as with-number-reads
 use Rattle.wire.proofs.writing.write.Reads as write-reads
 
 enum-known-r : tie.Need-enum-known-r

@@ -4,7 +4,7 @@ use Rattle.lines.proofs.trace.with_four.Statement.{statement}
 use Rattle.lines.proofs.trace.with_four.Tie as tie
 use Rattle.lines.proofs.trace.with_four.Reads as reads
 use Rattle.lines.proofs.trace.with_four.Lts as lts
-use Rattle.lines.proofs.text.with_number.Reads as with-number-reads
+use Rattle.numerals.proofs.text.with_number.Reads as with-number-reads
 
 with-number-requires : tie.Need-with-number-requires
 with-number-requires c κs = search needs

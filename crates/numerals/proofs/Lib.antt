@@ -1,0 +1,3 @@
+-- The laws of digits and of text that grows.
+pub mod Digits
+pub mod Texts

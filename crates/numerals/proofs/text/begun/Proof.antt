@@ -1,0 +1,20 @@
+use native.Mathlib.Omega.{arith}
+use borrow.Author.Needs.{needs}
+use Rattle.numerals.proofs.text.begun.Statement.{statement}
+use Rattle.numerals.proofs.text.begun.Tie as tie
+use Rattle.numerals.proofs.text.begun.Reads as reads
+use Rattle.numerals.proofs.text.begun.Lts as lts
+use Rattle.numerals.proofs.text.added.Reads as added-reads
+use Rattle.numerals.proofs.text.empty.Reads as empty-reads
+
+empty-requires : tie.Need-empty-requires
+empty-requires c κs = search needs
+
+added-requires : tie.Need-added-requires
+added-requires c κs = search needs
+
+returns : tie.Need-returns
+returns c = record { text = rw (c .added .ensures .text, c .before .empty .ensures .text); size = omega arith }
+
+pub begun-spec : {M : Type 1} → statement M
+begun-spec = tie.close (tie.spec empty-requires added-requires returns)

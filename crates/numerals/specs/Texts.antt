@@ -1,0 +1,32 @@
+-- Text that the code puts together by value.
+use Prim.Native.Nat.{ℕ, _+_, _*_, _≤_}
+use mathlib.Core.Path.{_≡_}
+use mathlib.Core.List.{List}
+use lib.ListN.{take}
+use Rattle.pending.specs.Pending.{MAX-PENDING}
+use Rattle.numerals.specs.declared.text.Text.{Text}
+
+-- The most that a word takes; a field, with the space before it; a line that isn't traced; a line of a dropped ticket.
+abbrev pub WORD-LEN : ℕ
+WORD-LEN = 8
+
+abbrev pub FIELD-LEN : ℕ
+FIELD-LEN = 22
+
+abbrev pub LINE-LEN : ℕ
+LINE-LEN = WORD-LEN + 5 * FIELD-LEN + 1
+
+abbrev pub DROPPED-LEN : ℕ
+DROPPED-LEN = WORD-LEN + FIELD-LEN + 1
+
+-- The most that a text holds: a line and those of all that can be dropped.
+abbrev pub TEXT-LEN : ℕ
+TEXT-LEN = LINE-LEN + MAX-PENDING * DROPPED-LEN
+
+unfoldable pub textOf : Text → List ℕ
+textOf t = take (t .len) (t .bytes)
+
+-- It holds these bytes, and no more than so many.
+pub record Holds (t : Text) (bytes : List ℕ) (most : ℕ) : Type 0 where
+  pub text : textOf t ≡ bytes
+  pub size : t .len ≤ most
