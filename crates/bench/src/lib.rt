@@ -1,13 +1,13 @@
 // What a benchmark runs: one session over a table of one device, which imports it and then takes the same messages again and
 // again. The functions answer a number that depends on every round, so that no round can be left out.
+use events::answer::Completion;
+use events::answer::Event;
 use exports::device::Device;
 use exports::device::Interface;
 use exports::device::MAX_DEVICES;
 use exports::device::MAX_INTERFACES;
 use exports::device::PATH_LEN;
 use exports::device::Table;
-use session::answer::Completion;
-use session::answer::Event;
 use session::state::Session;
 use wire::codes::BUSID_LEN;
 use wire::writing::write;
