@@ -1,7 +1,7 @@
 // What a benchmark runs: one session over the tape's table, which imports it and then takes the same messages again and
 // again. The functions answer a number that depends on every round, so that no round can be left out.
-use session::answer::Completion;
-use session::answer::Event;
+use events::answer::Completion;
+use events::answer::Event;
 use session::state::Session;
 use tape::table::tape_table;
 ghost use Prim.Native.Nat.{_≤_};

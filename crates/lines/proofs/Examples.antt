@@ -6,8 +6,8 @@ use lib.ListN.{replicate}
 use Rattle.wire.specs.Codes
 use Rattle.wire.specs.Status.{minus}
 use Rattle.pending.specs.declared.urb.Urb.{Urb}
-use Rattle.session.specs.declared.answer.Removed.the-variants.{Ticket, Nothing}
-use Rattle.session.specs.declared.answer.Completion.the-variants.{Return, Refused}
+use Rattle.events.specs.declared.answer.Removed.the-variants.{Ticket, Nothing}
+use Rattle.events.specs.declared.answer.Completion.the-variants.{Return, Refused}
 use Rattle.model.specs.Model.{Event}
 use Rattle.numerals.specs.Digits
 use Rattle.numerals.specs.Digits.{ascii}

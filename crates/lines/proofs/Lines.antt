@@ -4,9 +4,9 @@ use mathlib.Core.Path.{_≡_, refl, ap, _∙_}
 use mathlib.Core.List.{List, [], _∷_, _++_, append-assoc}
 use native.Mathlib.Omega.{arith}
 use lib.ListN.{length}
-use Rattle.session.specs.Views.{removed}
-use Rattle.session.specs.declared.answer.Removed.{Removed}
-use Rattle.session.specs.declared.answer.Removed.the-variants.{Ticket, Nothing}
+use Rattle.events.specs.Answers.{removed}
+use Rattle.events.specs.declared.answer.Removed.{Removed}
+use Rattle.events.specs.declared.answer.Removed.the-variants.{Ticket, Nothing}
 use Rattle.numerals.specs.Digits.{ascii, decimal, statusText, hexOf}
 use Rattle.lines.specs.Traces.{hexField}
 use Rattle.lines.specs.Lines.{fields, lineOf, line, linesOf}

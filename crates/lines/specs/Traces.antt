@@ -5,10 +5,10 @@ use lib.ListN.{take}
 use Rattle.wire.specs.Codes.{HEADER-LEN}
 use Rattle.pending.specs.declared.urb.Transfer.{Transfer}
 use Rattle.pending.specs.declared.urb.Urb.{Urb}
-use Rattle.session.specs.declared.answer.Removed.{Removed}
-use Rattle.session.specs.declared.answer.Removed.the-variants.{Ticket, Nothing}
-use Rattle.session.specs.declared.answer.Completion.{Completion}
-use Rattle.session.specs.declared.answer.Completion.the-variants.{Return, Refused}
+use Rattle.events.specs.declared.answer.Removed.{Removed}
+use Rattle.events.specs.declared.answer.Removed.the-variants.{Ticket, Nothing}
+use Rattle.events.specs.declared.answer.Completion.{Completion}
+use Rattle.events.specs.declared.answer.Completion.the-variants.{Return, Refused}
 use Rattle.numerals.specs.Digits.{ascii, decimal, hexOf}
 use Rattle.numerals.specs.Texts.{WORD-LEN, FIELD-LEN}
 use Rattle.lines.specs.Lines.{line}

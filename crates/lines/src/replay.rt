@@ -1,4 +1,7 @@
 // The lines of the program `replay`.
+use events::answer::Closing;
+use events::answer::Completion;
+use events::answer::Event;
 use numerals::text::Text;
 use numerals::text::added;
 use numerals::text::begun;
@@ -10,9 +13,6 @@ use numerals::text::with_status;
 use pending::list::MAX_PENDING;
 use pending::list::Tickets;
 use session::answer::Answer;
-use session::answer::Closing;
-use session::answer::Completion;
-use session::answer::Event;
 use session::answer::Numbers;
 use wire::writing::write;
 ghost use Prim.Native.Nat.{ℕ, _+_, _≤_};
@@ -21,7 +21,8 @@ ghost use lib.ListN.{length, take};
 ghost use Rattle.wire.specs.Fields.{joined};
 ghost use Rattle.wire.specs.Writing.{Wrote};
 ghost use Rattle.pending.specs.Pending.{MAX-PENDING};
-ghost use Rattle.session.specs.Views.{eventOf, completionOf, closingOf, numbersAs};
+ghost use Rattle.events.specs.Answers.{eventOf, completionOf, closingOf};
+ghost use Rattle.session.specs.Views.{numbersAs};
 ghost use Rattle.numerals.specs.Digits.{decimal, statusText};
 ghost use Rattle.numerals.specs.Texts.{TEXT-LEN, WORD-LEN, LINE-LEN, DROPPED-LEN, textOf, Holds};
 ghost use Rattle.lines.specs.Lines.{lineOf, line, linesOf, completionLines, endLine, badTapeLine};

@@ -1,4 +1,6 @@
 // The lines that the program `trace` adds to those of `replay`.
+use events::answer::Completion;
+use events::answer::Removed;
 use numerals::text::Text;
 use numerals::text::added;
 use numerals::text::begun;
@@ -7,8 +9,6 @@ use numerals::text::put;
 use numerals::text::put_bytes;
 use numerals::text::with_number;
 use pending::urb::Transfer;
-use session::answer::Completion;
-use session::answer::Removed;
 use wire::codes::HEADER_LEN;
 use wire::codes::SETUP_LEN;
 use wire::writing::write;

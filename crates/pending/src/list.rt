@@ -86,17 +86,12 @@ fn place_of_ticket(urbs: [Urb; MAX_PENDING], count: usize, ticket: u64) -> Place
 }
 
 fn tickets_of(urbs: [Urb; MAX_PENDING], count: usize) -> Tickets
+    requires { ⌜ count ≤ MAX-PENDING ⌝ }
     ensures { λ r. ⌜ r ≡ listing (take count urbs) ⌝ }
 {
     let mut out = [0u64; MAX_PENDING];
     let mut k: usize = 0;
-    while k < MAX_PENDING {
-        if count <= k {
-            return Tickets {
-                tickets: out,
-                count: k,
-            };
-        }
+    while k < count {
         let u = urbs[k];
         out[k] = u.transfer.ticket;
         k += 1;
@@ -204,8 +199,9 @@ impl Pending {
     pub fn tickets(self) -> Tickets
         ensures { λ r. ⌜ r ≡ listing (listOf self) ⌝ }
     {
+        let n = self.len();
         let urbs = self.urbs;
-        tickets_of(urbs, self.count)
+        tickets_of(urbs, n)
     }
 
     // The URB at a place, blank where there is none.

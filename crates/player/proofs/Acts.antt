@@ -6,9 +6,11 @@ use mathlib.Core.List.{List}
 use lib.ListN.{replicate}
 use Rattle.wire.specs.Codes
 use Rattle.model.specs.Model.{Sess, Buffers, Complete, Close, completeOf, closeOf}
-use Rattle.session.specs.Views.{completionOf, completedAs, handed, closingOf, closedAs}
-use Rattle.session.specs.declared.answer.Completion.{Completion}
-use Rattle.session.specs.declared.answer.Completion.the-variants.{Return, Refused}
+use Rattle.events.specs.Answers.{completionOf, closingOf}
+use Rattle.planning.specs.Completing.{handed}
+use Rattle.session.specs.Views.{completedAs, closedAs}
+use Rattle.events.specs.declared.answer.Completion.{Completion}
+use Rattle.events.specs.declared.answer.Completion.the-variants.{Return, Refused}
 use Rattle.session.specs.declared.answer.Completed.{Completed}
 use Rattle.session.specs.declared.answer.Closed.{Closed}
 use Rattle.tape.specs.Table.{deviceData}

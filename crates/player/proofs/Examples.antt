@@ -16,12 +16,12 @@ use Rattle.verdicts.specs.Limits
 use Rattle.verdicts.specs.Tests.{decide, pick}
 use Rattle.model.specs.Machine.{feed}
 use Rattle.model.specs.Model.{Sess, Buffers, urbOf, bodyOf, submitted, submitting, headed, message, requested, lookedUp, request, judge, replyTo, grow, put, tell, feedOf, completeOf, closeOf, openOf}
-use Rattle.session.specs.Views.{fedOf}
+use Rattle.planning.specs.Feeding.{fedOf}
 use Rattle.tape.specs.Tape.{recordBytes}
 use Rattle.tape.specs.Table.{tapeTable}
 use Rattle.tape.specs.declared.reader.Record.{Record}
 use Rattle.tape.specs.declared.reader.Record.the-variants.{Stream, Completion, Close}
-use Rattle.lines.specs.Digits.{ascii, numeral, digits}
+use Rattle.numerals.specs.Digits.{ascii, numeral, digits}
 use Rattle.player.specs.Play.{Play, playStream, playRecord}
 
 -- A record and its stream bytes.

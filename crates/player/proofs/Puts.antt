@@ -8,9 +8,9 @@ use lib.ListN.{length, take, drop, length-append, length-take, length-drop}
 use lib.Seq.{take-all, length-take-le}
 use Rattle.wire.specs.Writing.{fitting, over, Wrote}
 use Rattle.wire.proofs.Parts.{wrote-all, wrote-count, written-behind}
-use Rattle.session.specs.Views.{removed}
-use Rattle.session.specs.declared.answer.Removed.{Removed}
-use Rattle.session.specs.declared.answer.Removed.the-variants.{Ticket, Nothing}
+use Rattle.events.specs.Answers.{removed}
+use Rattle.events.specs.declared.answer.Removed.{Removed}
+use Rattle.events.specs.declared.answer.Removed.the-variants.{Ticket, Nothing}
 use Rattle.lines.specs.Traces.{removedTrace}
 use Rattle.player.specs.Play.{Puts, besideText, ends}
 

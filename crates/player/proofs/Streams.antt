@@ -11,7 +11,9 @@ use borrow.Author.Tests.{eqb-true, eqb-false, eq-eqb, ne-eqb}
 use Rattle.model.specs.Model.{Sess, Buffers}
 use Rattle.model.specs.Cut.{lent}
 use Rattle.model.proofs.Corollaries.{used-feed}
-use Rattle.session.specs.Views.{Said, viewOf, fedAs, fedOf}
+use Rattle.events.specs.Plans.{Said}
+use Rattle.planning.specs.Feeding.{fedOf}
+use Rattle.session.specs.Views.{viewOf, fedAs}
 use Rattle.session.specs.declared.answer.Fed.{Fed}
 use Rattle.player.specs.Play.{Puts, saidText, ends, Play, alone, before, playStream}
 use Rattle.player.specs.Played.{Tells, Plays}

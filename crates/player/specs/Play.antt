@@ -10,9 +10,11 @@ use Rattle.wire.specs.Codes
 use Rattle.wire.specs.Writing.{over}
 use Rattle.pending.specs.declared.urb.Urb.{Urb}
 use Rattle.model.specs.Model.{Sess, Event, Buffers, completeOf, closeOf}
-use Rattle.session.specs.Views.{Said, fedOf, handed}
-use Rattle.session.specs.declared.answer.Removed.the-variants.{Ticket, Nothing}
-use Rattle.session.specs.declared.answer.Completion.the-variants.{Return, Refused}
+use Rattle.events.specs.Plans.{Said}
+use Rattle.planning.specs.Feeding.{fedOf}
+use Rattle.planning.specs.Completing.{handed}
+use Rattle.events.specs.declared.answer.Removed.the-variants.{Ticket, Nothing}
+use Rattle.events.specs.declared.answer.Completion.the-variants.{Return, Refused}
 use Rattle.tape.specs.Tape.{streamOf}
 use Rattle.tape.specs.Table.{deviceData}
 use Rattle.tape.specs.declared.reader.Record.{Record}

@@ -4,7 +4,8 @@ use mathlib.Core.Bool.{Bool}
 use mathlib.Core.List.{List}
 use Prim.Native.Nat.{ℕ}
 use Rattle.model.specs.Model.{Buffers}
-use Rattle.session.specs.Views.{Said, viewOf}
+use Rattle.events.specs.Plans.{Said}
+use Rattle.session.specs.Views.{viewOf}
 use Rattle.player.specs.Play.{Puts, saidText, ends, Play}
 use Rattle.player.specs.declared.feed.Told.{Told}
 use Rattle.player.specs.declared.record.Played.{Played}

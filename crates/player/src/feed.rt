@@ -1,7 +1,7 @@
 // The stream bytes of a record: fed until they are used up or the session is closed.
 use crate::record::Played;
 use crate::text::put_feed;
-use session::answer::Event;
+use events::answer::Event;
 use session::state::Session;
 ghost use Prim.Native.Nat.{ℕ, _+_, _≤_, _<_};
 ghost use mathlib.Core.Bool.{cond, _||_};
@@ -11,7 +11,9 @@ ghost use mathlib.Core.List.{List};
 ghost use lib.ListN.{length};
 ghost use Rattle.pending.specs.declared.list.Tickets.{Tickets};
 ghost use Rattle.model.specs.Cut.{lent};
-ghost use Rattle.session.specs.Views.{viewOf, eventOf, fedOf};
+ghost use Rattle.events.specs.Answers.{eventOf};
+ghost use Rattle.planning.specs.Feeding.{fedOf};
+ghost use Rattle.session.specs.Views.{viewOf};
 ghost use Rattle.player.specs.Play.{ends, playStream};
 ghost use Rattle.player.specs.Played.{Tells, Plays};
 

@@ -1,4 +1,6 @@
 // The lines of one act: those of `replay`, and behind them those that `trace` adds.
+use events::answer::Completion;
+use events::answer::Event;
 use lines::replay::complete_line;
 use lines::replay::feed_lines;
 use lines::trace::trace_data;
@@ -8,13 +10,11 @@ use lines::trace::trace_record;
 use lines::trace::trace_removed;
 use pending::urb::Transfer;
 use session::answer::Answer;
-use session::answer::Completion;
-use session::answer::Event;
 use wire::codes::DIR_OUT;
 use wire::codes::SETUP_LEN;
 ghost use mathlib.Core.Path.{_≡_};
 ghost use lib.ListN.{take};
-ghost use Rattle.session.specs.Views.{eventOf, completionOf};
+ghost use Rattle.events.specs.Answers.{eventOf, completionOf};
 ghost use Rattle.player.specs.Play.{Puts, dataLength, submitText, besideText, tracedText, feedText, completionText};
 
 // The first n bytes, or as many as there are.

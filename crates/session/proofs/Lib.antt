@@ -1,9 +1,5 @@
 -- Why the code is what the definitions say.
-pub mod Fits
-pub mod Saying
-pub mod Stages
-pub mod Moments
-pub mod Pieces
-pub mod Acts
+pub mod Opening
+pub mod Writing
 pub mod Run
 pub mod Demands

@@ -1,17 +1,16 @@
 -- The run theorem speaks of the code's own sessions.
-use Prim.Native.Nat.{ℕ}
 use mathlib.Core.Path.{_≡_, refl, sym, ap, subst, _∙_}
 use mathlib.Core.Bool.{Bool, true, false}
 use mathlib.Core.List.{List, [], _∷_, map}
-use Rattle.exports.specs.declared.device.Table.{Table}
-use Rattle.model.specs.Model
 use Rattle.model.specs.Model.{Sess, Complete, Close, openOf}
-use Rattle.model.specs.Book.{Call, Answer, Book, opened, keep}
+use Rattle.model.specs.Book.{Answer, Book, opened, keep}
 use Rattle.model.specs.Claims
 use Rattle.model.specs.Claims.{Holds, answerTo}
 use Rattle.model.specs.Corollaries.{sessionAfter, bookAfter}
 use Rattle.model.proofs.Runs.{every-run}
-use Rattle.session.specs.Views.{Said, viewOf, fedOf, openAnswer}
+use Rattle.events.specs.Plans.{Said}
+use Rattle.planning.specs.Feeding.{fedOf}
+use Rattle.session.specs.Views.{viewOf, openAnswer}
 use Rattle.session.specs.Run.{Act, feeding, completing, closing, callOf, answerOf, nextOf, Meets, Run, lastOf, kept, isReady, CodeRun}
 use Rattle.session.specs.declared.state.Session.{Session}
 

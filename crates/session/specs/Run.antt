@@ -9,7 +9,9 @@ use Rattle.model.specs.Model.{Buffers, openOf, completeOf, closeOf}
 use Rattle.model.specs.Book.{Call, feed, complete, close, Answer, Book, opened, keep}
 use Rattle.model.specs.Claims.{Holds}
 use Rattle.model.specs.Corollaries.{sessionFrom, bookFrom}
-use Rattle.session.specs.Views.{viewOf, eventOf, fedAs, fedOf, openAnswer, completionOf, completedAs, closingOf, closedAs}
+use Rattle.events.specs.Answers.{eventOf, completionOf, closingOf}
+use Rattle.planning.specs.Feeding.{fedOf}
+use Rattle.session.specs.Views.{viewOf, fedAs, openAnswer, completedAs, closedAs}
 use Rattle.session.specs.declared.state.Session.{Session}
 use Rattle.session.specs.declared.answer.Opening.{Opening}
 use Rattle.session.specs.declared.answer.Opening.the-variants.{Ready, Refused}

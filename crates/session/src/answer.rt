@@ -1,29 +1,10 @@
-// What the acts answer. Numbers go inside an event, arrays beside it. What each case stands for is `eventOf` and its like in
-// specs/Views.antt.
+// What the acts hand back: the next session, and an answer. The cases of the answers are those of `events`, but for an opening's.
 use crate::state::Session;
+use events::answer::Closing;
+use events::answer::Completion;
+use events::answer::Event;
 use pending::list::Tickets;
-use pending::urb::Transfer;
 use wire::codes::SETUP_LEN;
-
-// The ticket that an unlink removed, if it did.
-pub enum Removed {
-    Ticket(u64),
-    Nothing,
-}
-
-// Hungry is 01's word for a feed that ends within a message. An import has its status; an accepted submit its record (the
-// setup bytes stand beside); an answer to a refused submit its seqnum and status; an unlink its own seqnum, its status and the
-// ticket removed. A break is 01's word for a fault in the stream, which ends the session; it and a refusal have their number.
-pub enum Event {
-    Hungry,
-    List,
-    Import(u32),
-    Submit(Transfer),
-    Answer(u32, u32),
-    Unlink(u32, u32, Removed),
-    Break(u32),
-    Refused(u32),
-}
 
 // The event, the bytes consumed of the piece, the length of the reply; an accepted submit's setup bytes; a break's tickets.
 pub struct Answer {
@@ -39,20 +20,9 @@ pub struct Fed {
     pub answer: Answer,
 }
 
-// A completion is accepted, with the length of the reply on the wire, or refused.
-pub enum Completion {
-    Return(u64),
-    Refused(u32),
-}
-
 pub struct Completed {
     pub session: Session,
     pub answer: Completion,
-}
-
-pub enum Closing {
-    End,
-    Refused(u32),
 }
 
 // The tickets of what was pending, lowest first.

@@ -1,7 +1,7 @@
 // A plan is carried out: on the pending list, and on the lent buffers.
-use crate::event::device_at;
-use crate::plan::Change;
-use crate::plan::Reply;
+use events::event::device_at;
+use events::plan::Change;
+use events::plan::Reply;
 use exports::device::Table;
 use importing::import_reply;
 use importing::refuse_import;
@@ -25,9 +25,10 @@ ghost use Rattle.wire.specs.Codes;
 ghost use Rattle.wire.specs.Writing.{over, Wrote};
 ghost use Rattle.messages.specs.Messages.{retSubmit};
 ghost use Rattle.verdicts.specs.Limits;
-ghost use Rattle.session.specs.Views.{ticketsOf, changed, droppedBy, replyBytes, Placed};
+ghost use Rattle.events.specs.Answers.{ticketsOf};
+ghost use Rattle.events.specs.Plans.{changed, droppedBy, replyBytes, Placed};
 
-pub(crate) fn no_tickets() -> Tickets
+fn no_tickets() -> Tickets
     ensures { λ r. ⌜ r ≡ ticketsOf [] ⌝ }
 {
     Tickets {

@@ -9,7 +9,9 @@ use borrow.Rule.Slice.PartMut.{same-len-mid}
 use borrow.Author.Needs.{needs}
 use Rattle.model.specs.Model.{Buffers}
 use Rattle.model.specs.Cut.{lent}
-use Rattle.session.specs.Views.{Said, viewOf, fedOf}
+use Rattle.events.specs.Plans.{Said}
+use Rattle.planning.specs.Feeding.{fedOf}
+use Rattle.session.specs.Views.{viewOf}
 use Rattle.player.specs.Play.{saidText, playStream}
 use Rattle.player.specs.Played.{Tells}
 use Rattle.player.proofs.Puts.{part-end, puts-next}

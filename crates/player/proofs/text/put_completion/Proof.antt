@@ -4,7 +4,7 @@ use mathlib.Core.Path.{refl, sym}
 use mathlib.Core.List.{List, _++_}
 use lib.ListN.{length, take, drop}
 use Rattle.model.specs.Model.{Event}
-use Rattle.session.specs.Views.{completionOf}
+use Rattle.events.specs.Answers.{completionOf}
 use Rattle.lines.specs.Lines.{completionLines}
 use Rattle.player.specs.Play.{Puts, headerText, completionText}
 use Rattle.player.proofs.Acts.{header-text}

@@ -4,7 +4,7 @@ use mathlib.Core.Path.{refl, sym}
 use mathlib.Core.List.{List, _++_}
 use lib.ListN.{length, take, drop}
 use Rattle.model.specs.Model.{Event}
-use Rattle.session.specs.Views.{eventOf}
+use Rattle.events.specs.Answers.{eventOf}
 use Rattle.lines.specs.Lines.{linesOf}
 use Rattle.player.specs.Play.{Puts, tracedText, feedText}
 use Rattle.player.proofs.Puts.{puts-wrote, puts-next, with-trace, without-trace}

@@ -4,16 +4,16 @@ use Rattle.session.proofs.act.fresh_session.Tie as tie
 use Rattle.session.proofs.act.fresh_session.Reads as reads
 use Rattle.session.proofs.act.fresh_session.Lts as lts
 use Rattle.pending.proofs.list.Pending.empty.Reads as empty-reads
-use Rattle.session.proofs.event.no_progress.Reads as no-progress-reads
+use Rattle.planning.proofs.ends.fresh_link.Reads as fresh-link-reads
 
-no-progress-requires : tie.Need-no-progress-requires
-no-progress-requires c κs = search needs
+fresh-link-requires : tie.Need-fresh-link-requires
+fresh-link-requires c κs = search needs
 
 empty-requires : tie.Need-empty-requires
 empty-requires c κs = search needs
 
 returns : tie.Need-returns
-returns c = rw (c .before .no-progress .ensures, c .empty .ensures)
+returns c = rw (c .before .fresh-link .ensures, c .empty .ensures)
 
 pub fresh-session-spec : {M : Type 1} → statement M
-fresh-session-spec = tie.close (tie.spec no-progress-requires empty-requires returns)
+fresh-session-spec = tie.close (tie.spec fresh-link-requires empty-requires returns)

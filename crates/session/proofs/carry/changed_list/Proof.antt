@@ -1,7 +1,6 @@
-use Rattle.session.specs.declared.plan.Change.{Change}
-use Rattle.session.specs.Views.{changed}
-use native.Mathlib.Omega.{arith}
-use mathlib.Core.Path.{_≡_, refl, sym, ap, _∙_}
+use Rattle.events.specs.declared.plan.Change.{Change}
+use Rattle.events.specs.Plans.{changed}
+use mathlib.Core.Path.{sym, ap, _∙_}
 use borrow.Author.Needs.{needs}
 use Rattle.session.proofs.carry.changed_list.Statement.{statement}
 use Rattle.session.proofs.carry.changed_list.Tie as tie

@@ -1,9 +1,9 @@
-use Rattle.session.proofs.Pieces.{written-sets}
+use Rattle.session.proofs.Writing.{written-sets}
 use lib.Seq.{length-take-le}
 use lib.ListN.{length, take, drop, length-drop}
 use Prim.Native.Nat.{_-_}
 use native.Mathlib.Omega.{arith}
-use mathlib.Core.Path.{_≡_, refl, sym, ap, _∙_}
+use mathlib.Core.Path.{_≡_, refl}
 use borrow.Author.Needs.{needs}
 use Rattle.session.proofs.carry.copy_data.Statement.{statement}
 use Rattle.session.proofs.carry.copy_data.Tie as tie

@@ -1,6 +1,5 @@
-use Rattle.session.specs.Views.{droppedBy}
-use native.Mathlib.Omega.{arith}
-use mathlib.Core.Path.{_≡_, refl, sym, ap, _∙_}
+use Rattle.events.specs.Plans.{droppedBy}
+use mathlib.Core.Path.{sym, ap, _∙_}
 use borrow.Author.Needs.{needs}
 use Rattle.session.proofs.carry.dropped_tickets.Statement.{statement}
 use Rattle.session.proofs.carry.dropped_tickets.Tie as tie

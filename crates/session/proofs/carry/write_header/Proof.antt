@@ -1,8 +1,7 @@
-use Rattle.session.proofs.Saying.{ret-submit-length}
+use Rattle.session.proofs.Writing.{ret-submit-length}
 use Rattle.messages.specs.Messages.{retSubmit}
 use Rattle.wire.proofs.Parts.{wrote-all}
 use native.Mathlib.Omega.{arith}
-use mathlib.Core.Path.{_≡_, refl, sym, ap, _∙_}
 use borrow.Author.Needs.{needs}
 use Rattle.session.proofs.carry.write_header.Statement.{statement}
 use Rattle.session.proofs.carry.write_header.Tie as tie

@@ -1,6 +1,6 @@
-use Rattle.session.proofs.Acts.{reply-as}
-use Rattle.session.proofs.Saying.{refused-length, ret-submit-length, ret-unlink-length}
-use Rattle.session.specs.Views.{Placed}
+use Rattle.session.proofs.Writing.{reply-as}
+use Rattle.session.proofs.Writing.{refused-length, ret-submit-length, ret-unlink-length}
+use Rattle.events.specs.Plans.{Placed}
 use Rattle.importing.specs.Imports.{importReply}
 use Rattle.exports.specs.Devices.{noDevice, devicesOf}
 use Rattle.wire.proofs.Parts.{wrote-over}
@@ -9,9 +9,9 @@ use lib.ListN.{length, getD}
 use mathlib.Core.List.{List, []}
 use mathlib.Core.Path.{subst}
 use Prim.Native.Nat.{ℕ}
-use Rattle.session.specs.declared.plan.Reply.the-variants.{Silent, Devices, Device, NoDevice, Returned, Cancelled}
+use Rattle.events.specs.declared.plan.Reply.the-variants.{Silent, Devices, Device, NoDevice, Returned, Cancelled}
 use native.Mathlib.Omega.{arith}
-use mathlib.Core.Path.{_≡_, refl, sym, ap, _∙_}
+use mathlib.Core.Path.{_≡_, refl, ap}
 use borrow.Author.Needs.{needs}
 use Rattle.session.proofs.carry.write_reply.Statement.{statement}
 use Rattle.session.proofs.carry.write_reply.Tie as tie
@@ -22,7 +22,7 @@ use Rattle.importing.proofs.refuse_import.Reads as refuse-import-reads
 use Rattle.listing.proofs.list_reply.Reads as list-reply-reads
 use Rattle.messages.proofs.reply.write_ret_submit.Reads as write-ret-submit-reads
 use Rattle.messages.proofs.reply.write_ret_unlink.Reads as write-ret-unlink-reads
-use Rattle.session.proofs.event.device_at.Reads as device-at-reads
+use Rattle.events.proofs.event.device_at.Reads as device-at-reads
 
 enum-told : tie.Need-enum-told
 enum-told c = search needs
@@ -37,10 +37,7 @@ enum-known-reply : tie.Need-enum-known-reply
 enum-known-reply c = search needs
 
 device-at-requires : tie.Need-device-at-requires
-device-at-requires c κs =
-    let g = c .before .reply .given in
-    let s = c .before .before .before .before in
-    subst (Placed (s .args .table)) (g .1) (s .pre)
+device-at-requires c κs = search needs
 
 import-reply-requires : tie.Need-import-reply-requires
 import-reply-requires c κs = search needs
@@ -88,7 +85,8 @@ returns-3 c =
     let d = k .before .before in
     let g = d .before .before in
     let a = g .before .before .before .args in
-    let e : importReply (d .device-at .result) ≡ importReply (getD (devicesOf (a .table)) (g .reply .given .0 .0) noDevice) = ap importReply (d .device-at .ensures) in
+    let i = subst (Placed (a .table)) (g .reply .given .1) (g .before .before .before .pre) in
+    let e : importReply (d .device-at .result) ≡ importReply (getD (devicesOf (a .table)) (g .reply .given .0 .0) noDevice) = ap importReply (d .device-at .ensures i) in
     reply-as (a .table) (a .reply) (Device (g .reply .given .0 .0)) (a .out .now) (k .import-reply .last .1 .0) (k .import-reply .result) (g .reply .given .1) (subst (λ (x : List ℕ). Wrote x (a .out .now) (k .import-reply .last .1 .0) (k .import-reply .result)) e (k .import-reply .ensures .0)) (omega (arith, k .import-reply .ensures .1, ap length e))
 
 same-length-3 : tie.Need-same-length-3

@@ -1,12 +1,12 @@
-use Rattle.session.specs.Views.{viewOf, whole, completionOf}
-use native.Mathlib.Omega.{arith}
-use mathlib.Core.Path.{_≡_, refl, sym, ap, _∙_}
+use Rattle.events.specs.Links.{whole, viewOf}
+use Rattle.events.specs.Answers.{completionOf}
+use mathlib.Core.Path.{refl, _∙_}
 use borrow.Author.Needs.{needs}
 use Rattle.session.proofs.state.Session.complete.Statement.{statement}
 use Rattle.session.proofs.state.Session.complete.Tie as tie
 use Rattle.session.proofs.state.Session.complete.Reads as reads
 use Rattle.session.proofs.state.Session.complete.Lts as lts
-use Rattle.session.proofs.act.judge_completion.Reads as judge-completion-reads
+use Rattle.planning.proofs.completion.judge_completion.Reads as judge-completion-reads
 use Rattle.session.proofs.carry.changed_list.Reads as changed-list-reads
 use Rattle.session.proofs.carry.write_header.Reads as write-header-reads
 

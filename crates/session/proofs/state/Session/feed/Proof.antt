@@ -1,14 +1,15 @@
-use Rattle.session.specs.Views.{viewOf, whole, eventOf, replyBytes}
+use Rattle.events.specs.Links.{whole, viewOf}
+use Rattle.events.specs.Answers.{eventOf}
+use Rattle.events.specs.Plans.{replyBytes}
 use Rattle.model.specs.Cut.{lent}
 use Rattle.wire.proofs.Parts.{wrote-all, wrote-count}
-use native.Mathlib.Omega.{arith}
-use mathlib.Core.Path.{_≡_, refl, sym, ap, _∙_}
+use mathlib.Core.Path.{refl, _∙_}
 use borrow.Author.Needs.{needs}
 use Rattle.session.proofs.state.Session.feed.Statement.{statement}
 use Rattle.session.proofs.state.Session.feed.Tie as tie
 use Rattle.session.proofs.state.Session.feed.Reads as reads
 use Rattle.session.proofs.state.Session.feed.Lts as lts
-use Rattle.session.proofs.act.plan_feed.Reads as plan-feed-reads
+use Rattle.planning.proofs.feed.plan_feed.Reads as plan-feed-reads
 use Rattle.session.proofs.carry.changed_list.Reads as changed-list-reads
 use Rattle.session.proofs.carry.copy_data.Reads as copy-data-reads
 use Rattle.session.proofs.carry.dropped_tickets.Reads as dropped-tickets-reads

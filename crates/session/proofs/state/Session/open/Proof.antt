@@ -1,7 +1,6 @@
-use Rattle.session.proofs.Acts.{open-good, open-bad}
+use Rattle.session.proofs.Opening.{open-good, open-bad}
 use Rattle.session.specs.Views.{viewOf}
-use native.Mathlib.Omega.{arith}
-use mathlib.Core.Path.{_≡_, refl, sym, ap, _∙_}
+use mathlib.Core.Path.{ap, _∙_}
 use borrow.Author.Needs.{needs}
 use Rattle.session.proofs.state.Session.open.Statement.{statement}
 use Rattle.session.proofs.state.Session.open.Tie as tie

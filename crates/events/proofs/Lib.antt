@@ -1,0 +1,3 @@
+-- Why the code is what the definitions say.
+pub mod Fits
+pub mod Saying

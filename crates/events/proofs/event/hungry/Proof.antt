@@ -1,0 +1,26 @@
+use Rattle.events.proofs.Saying.{plainly, view-fit}
+use Rattle.events.specs.declared.plan.Reply.the-variants.{Silent}
+use Rattle.events.specs.declared.plan.Change.the-variants.{Keep}
+use Rattle.events.specs.declared.answer.Event.the-variants.{Hungry}
+use Rattle.events.specs.Links.{during, whole}
+use Rattle.model.specs.Model
+use mathlib.Core.Path.{refl}
+use borrow.Author.Needs.{needs}
+use Rattle.events.proofs.event.hungry.Statement.{statement}
+use Rattle.events.proofs.event.hungry.Tie as tie
+use Rattle.events.proofs.event.hungry.Reads as reads
+use Rattle.events.proofs.event.hungry.Lts as lts
+use Rattle.events.proofs.plan.plain_plan.Reads as plain-plan-reads
+
+plain-plan-requires : tie.Need-plain-plan-requires
+plain-plan-requires c κs = search needs
+
+returns : tie.Need-returns
+unfolding Model.replyTo
+returns c =
+    λ t l h f.
+    let a = c .before .before .args in
+    plainly _ t l (during (whole t (a .old) l) (a .p)) (a .used) Model.hungry _ Keep Hungry Silent (c .plain-plan .ensures) refl refl refl refl tt (view-fit _ h f)
+
+pub hungry-spec : {M : Type 1} → statement M
+hungry-spec = tie.close (tie.spec plain-plan-requires returns)

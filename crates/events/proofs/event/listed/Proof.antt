@@ -1,0 +1,33 @@
+use Rattle.events.proofs.Saying.{plainly, view-shut}
+use Rattle.events.specs.declared.plan.Reply.the-variants.{Devices}
+use Rattle.events.specs.declared.plan.Change.the-variants.{Keep}
+use Rattle.events.specs.declared.answer.Event.the-variants.{List}
+use Rattle.events.specs.declared.state.Link.{Link}
+use Rattle.events.specs.Links.{during, viewOf, whole}
+use Rattle.model.specs.Model
+use mathlib.Core.Path.{refl, ap, _∙_}
+use borrow.Author.Needs.{needs}
+use Rattle.events.proofs.event.listed.Statement.{statement}
+use Rattle.events.proofs.event.listed.Tie as tie
+use Rattle.events.proofs.event.listed.Reads as reads
+use Rattle.events.proofs.event.listed.Lts as lts
+use Rattle.events.proofs.event.resting_link.Reads as resting-link-reads
+use Rattle.events.proofs.plan.plain_plan.Reads as plain-plan-reads
+
+resting-link-requires : tie.Need-resting-link-requires
+resting-link-requires c κs = search needs
+
+plain-plan-requires : tie.Need-plain-plan-requires
+plain-plan-requires c κs = search needs
+
+returns : tie.Need-returns
+unfolding Model.replyTo
+returns c =
+    λ t l p.
+    let k = c .before in
+    let a = k .before .before .args in
+    plainly _ t l (during (whole t (a .old) l) p) (a .used) Model.list (k .resting-link .result) Keep List Devices (c .plain-plan .ensures) refl refl refl refl tt
+    (ap (λ (z : Link). viewOf (whole t z l)) (k .resting-link .ensures) ∙ view-shut _ _ _ _)
+
+pub listed-spec : {M : Type 1} → statement M
+listed-spec = tie.close (tie.spec resting-link-requires plain-plan-requires returns)

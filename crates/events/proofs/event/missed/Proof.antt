@@ -1,0 +1,36 @@
+use Rattle.events.proofs.Saying.{plainly, rests}
+use Rattle.events.specs.declared.answer.Removed.the-variants.{Nothing}
+use mathlib.Core.Option.{none}
+use Rattle.events.specs.declared.plan.Reply.the-variants.{Cancelled}
+use Rattle.events.specs.declared.plan.Change.the-variants.{Keep}
+use Rattle.events.specs.declared.answer.Event.the-variants.{Unlink}
+use Rattle.events.specs.declared.state.Link.{Link}
+use Rattle.events.specs.Links.{during, viewOf, whole}
+use Rattle.model.specs.Model
+use mathlib.Core.Path.{refl, ap, _∙_}
+use borrow.Author.Needs.{needs}
+use Rattle.events.proofs.event.missed.Statement.{statement}
+use Rattle.events.proofs.event.missed.Tie as tie
+use Rattle.events.proofs.event.missed.Reads as reads
+use Rattle.events.proofs.event.missed.Lts as lts
+use Rattle.events.proofs.event.resting_link.Reads as resting-link-reads
+use Rattle.events.proofs.plan.plain_plan.Reads as plain-plan-reads
+
+resting-link-requires : tie.Need-resting-link-requires
+resting-link-requires c κs = search needs
+
+plain-plan-requires : tie.Need-plain-plan-requires
+plain-plan-requires c κs = search needs
+
+returns : tie.Need-returns
+unfolding Model.replyTo
+returns c =
+    λ t l p h.
+    let k = c .before in
+    let a = k .before .before .args in
+    let w = whole t (a .old) l in
+    plainly _ t l (during w p) (a .used) (Model.unlink (a .seqnum) 0 none) (k .resting-link .result) Keep (Unlink (a .seqnum) 0 Nothing) (Cancelled (record { seqnum = a .seqnum; status = 0 })) (c .plain-plan .ensures) refl refl refl refl tt
+    (ap (λ (z : Link). viewOf (whole t z l)) (k .resting-link .ensures) ∙ rests w p h)
+
+pub missed-spec : {M : Type 1} → statement M
+missed-spec = tie.close (tie.spec resting-link-requires plain-plan-requires returns)

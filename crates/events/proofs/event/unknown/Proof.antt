@@ -1,0 +1,33 @@
+use Rattle.events.proofs.Saying.{plainly, view-shut}
+use Rattle.events.specs.declared.plan.Reply.the-variants.{NoDevice}
+use Rattle.events.specs.declared.plan.Change.the-variants.{Keep}
+use Rattle.events.specs.declared.answer.Event.the-variants.{Import}
+use Rattle.events.specs.declared.state.Link.{Link}
+use Rattle.events.specs.Links.{during, viewOf, whole}
+use Rattle.model.specs.Model
+use mathlib.Core.Path.{refl, ap, _∙_}
+use borrow.Author.Needs.{needs}
+use Rattle.events.proofs.event.unknown.Statement.{statement}
+use Rattle.events.proofs.event.unknown.Tie as tie
+use Rattle.events.proofs.event.unknown.Reads as reads
+use Rattle.events.proofs.event.unknown.Lts as lts
+use Rattle.events.proofs.event.resting_link.Reads as resting-link-reads
+use Rattle.events.proofs.plan.plain_plan.Reads as plain-plan-reads
+
+resting-link-requires : tie.Need-resting-link-requires
+resting-link-requires c κs = search needs
+
+plain-plan-requires : tie.Need-plain-plan-requires
+plain-plan-requires c κs = search needs
+
+returns : tie.Need-returns
+unfolding Model.replyTo Rattle.verdicts.specs.Tests.pick
+returns c =
+    λ t l p f.
+    let k = c .before in
+    let a = k .before .before .args in
+    plainly _ t l (during (whole t (a .old) l) p) (a .used) (Model.import 1) (k .resting-link .result) Keep (Import 1) NoDevice (c .plain-plan .ensures) refl refl refl (rw f) tt
+    (ap (λ (z : Link). viewOf (whole t z l)) (k .resting-link .ensures) ∙ view-shut _ _ _ _)
+
+pub unknown-spec : {M : Type 1} → statement M
+unknown-spec = tie.close (tie.spec resting-link-requires plain-plan-requires returns)

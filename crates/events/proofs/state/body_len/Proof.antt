@@ -1,0 +1,19 @@
+use Rattle.events.proofs.Fits.{body-out, body-in}
+use borrow.Author.Needs.{needs}
+use Rattle.events.proofs.state.body_len.Statement.{statement}
+use Rattle.events.proofs.state.body_len.Tie as tie
+use Rattle.events.proofs.state.body_len.Reads as reads
+use Rattle.events.proofs.state.body_len.Lts as lts
+use Rattle.messages.proofs.message.read_submit.Reads as read-submit-reads
+
+read-submit-requires : tie.Need-read-submit-requires
+read-submit-requires c κs = search needs
+
+returns : tie.Need-returns
+returns c = let k = c .before .before in body-out (k .before .args .head) (k .read-submit .result) (k .read-submit .ensures) (c .if1 .taken)
+
+returns-2 : tie.Need-returns-2
+returns-2 c = let k = c .before .before in body-in (k .before .args .head) (k .read-submit .result) (k .read-submit .ensures) (c .if1 .left)
+
+pub body-len-spec : {M : Type 1} → statement M
+body-len-spec = tie.close (tie.spec read-submit-requires returns returns-2)

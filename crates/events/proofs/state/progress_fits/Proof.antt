@@ -1,0 +1,27 @@
+use borrow.Author.Tests.{eq-eqb, ne-eqb}
+use borrow.Author.Needs.{needs}
+use Rattle.events.proofs.state.progress_fits.Statement.{statement}
+use Rattle.events.proofs.state.progress_fits.Tie as tie
+use Rattle.events.proofs.state.progress_fits.Reads as reads
+use Rattle.events.proofs.state.progress_fits.Lts as lts
+use Rattle.events.proofs.state.attached_fits.Reads as attached-fits-reads
+use Rattle.events.proofs.state.waiting_fits.Reads as waiting-fits-reads
+
+waiting-fits-requires : tie.Need-waiting-fits-requires
+waiting-fits-requires c κs = search needs
+
+returns : tie.Need-returns
+returns c = rw (eq-eqb _ _ (c .before .if1 .taken), c .waiting-fits .ensures)
+
+attached-fits-requires : tie.Need-attached-fits-requires
+attached-fits-requires c κs = search needs
+
+returns-2 : tie.Need-returns-2
+returns-2 c = rw (ne-eqb _ _ (c .before .before .if1 .left), eq-eqb _ _ (c .before .if2 .taken), c .attached-fits .ensures)
+
+returns-3 : tie.Need-returns-3
+returns-3 c = rw (ne-eqb _ _ (c .before .if1 .left), ne-eqb _ _ (c .if2 .left))
+
+pub progress-fits-spec : {M : Type 1} → statement M
+progress-fits-spec =
+    tie.close (tie.spec waiting-fits-requires returns attached-fits-requires returns-2 returns-3)

@@ -1,0 +1,18 @@
+use borrow.Author.Tests.{lt-ltb, le-ltb}
+use borrow.Author.Needs.{needs}
+use Rattle.events.proofs.state.waiting_fits.Statement.{statement}
+use Rattle.events.proofs.state.waiting_fits.Tie as tie
+use Rattle.events.proofs.state.waiting_fits.Reads as reads
+use Rattle.events.proofs.state.waiting_fits.Lts as lts
+
+add-if1 : tie.Need-add-if1
+add-if1 c = search needs
+
+returns : tie.Need-returns
+returns c = rw (lt-ltb _ _ (c .before .if1 .taken))
+
+returns-2 : tie.Need-returns-2
+returns-2 c = rw (le-ltb _ _ (c .if1 .left))
+
+pub waiting-fits-spec : {M : Type 1} → statement M
+waiting-fits-spec = tie.close (tie.spec add-if1 returns returns-2)

@@ -1,0 +1,34 @@
+// What the acts of a session answer, but for what stands beside it. Numbers go inside an event, arrays beside it. What each case
+// stands for is `eventOf` and its like in specs/Answers.antt.
+use pending::urb::Transfer;
+
+// The ticket that an unlink removed, if it did.
+pub enum Removed {
+    Ticket(u64),
+    Nothing,
+}
+
+// Hungry is 01's word for a feed that ends within a message. An import has its status; an accepted submit its record (the
+// setup bytes stand beside); an answer to a refused submit its seqnum and status; an unlink its own seqnum, its status and the
+// ticket removed. A break is 01's word for a fault in the stream, which ends the session; it and a refusal have their number.
+pub enum Event {
+    Hungry,
+    List,
+    Import(u32),
+    Submit(Transfer),
+    Answer(u32, u32),
+    Unlink(u32, u32, Removed),
+    Break(u32),
+    Refused(u32),
+}
+
+// A completion is accepted, with the length of the reply on the wire, or refused.
+pub enum Completion {
+    Return(u64),
+    Refused(u32),
+}
+
+pub enum Closing {
+    End,
+    Refused(u32),
+}

@@ -1,0 +1,5 @@
+-- Why the plans are what the definitions say.
+pub mod Stages
+pub mod Moments
+pub mod Pieces
+pub mod Acts

@@ -1,0 +1,42 @@
+-- What is written to the lent buffers.
+use Prim.Native.Nat.{ℕ, _+_, _-_, _≤_}
+use native.Mathlib.Omega.{arith}
+use mathlib.Core.Path.{_≡_, refl, sym, subst, _∙_}
+use mathlib.Core.List.{List, _++_}
+use lib.ListN.{length, take, drop, length-append}
+use lib.Seq.{sets, sets-eq, length-take-le}
+use Rattle.wire.specs.Codes
+use Rattle.wire.specs.Writing.{Wrote}
+use Rattle.wire.proofs.Parts.{written-next, over-front}
+use Rattle.messages.specs.Messages.{retSubmit, retUnlink}
+use Rattle.messages.specs.declared.reply.RetSubmit.{RetSubmit}
+use Rattle.messages.specs.declared.reply.RetUnlink.{RetUnlink}
+use Rattle.importing.specs.Imports.{importRefusal}
+use Rattle.exports.specs.declared.device.Table.{Table}
+use Rattle.verdicts.specs.Limits
+use Rattle.events.specs.Plans.{replyBytes}
+use Rattle.events.specs.declared.plan.Reply.{Reply}
+
+-- bytes written at a place of the work buffer
+pub written-sets : (work xs ys : List ℕ) (at n count : ℕ) → length work ≡ n → at + length xs ≤ n → Wrote xs (take (n - at) (drop at work)) ys count
+    → take at work ++ (ys ++ drop (n - at) (drop at work)) ≡ sets work at xs
+written-sets work xs ys at n count l h w =
+    let k : length (take at work) ≡ at = length-take-le at work (omega arith) in
+    written-next work work (take at work) xs ys at n count l k (sym (over-front at work (omega arith))) h w
+    ∙ rw (length-append (take at work) xs, k) (sym (sets-eq xs work at (omega arith)))
+
+-- a reply of the plan, once its case is known
+pub reply-as : (t : Table) (y z : Reply) (d x : List ℕ) (n : ℕ) → y ≡ z → Wrote (replyBytes t z) d x n → length (replyBytes t z) ≤ Limits.REPLY-LEN
+    → Wrote (replyBytes t y) d x n × (length (replyBytes t y) ≤ Limits.REPLY-LEN)
+reply-as t y z d x n e w l = subst (λ (k : Reply). Wrote (replyBytes t k) d x n × (length (replyBytes t k) ≤ Limits.REPLY-LEN)) (sym e) (w, l)
+
+-- the replies that are shorter than the least buffer
+pub refused-length : length importRefusal ≡ Codes.OP-LEN
+unfolding importRefusal
+refused-length = refl
+
+pub ret-submit-length : (r : RetSubmit) → length (retSubmit r) ≡ Codes.HEADER-LEN
+ret-submit-length r = refl
+
+pub ret-unlink-length : (r : RetUnlink) → length (retUnlink r) ≡ Codes.HEADER-LEN
+ret-unlink-length r = refl
