@@ -9,7 +9,7 @@ use mathlib.Core.Logic.{inl, inr}
 use mathlib.Core.Option.{none, some}
 use lib.Dec.{eqb, ltb}
 use lib.ListN.{length, List·getD-eq-default}
-use borrow.Author.Tests.{ltb-true, ltb-false}
+use borrow.Author.Tests.{eqb-true, ltb-true, ltb-false}
 use Rattle.wire.specs.Codes
 use Rattle.wire.specs.Writing.{over}
 use Rattle.messages.specs.Messages.{retSubmit}
@@ -34,12 +34,12 @@ use Rattle.model.specs.Model.{Sess, Event, Buffers, feedTests, feedOf, feedByte
 use Rattle.model.specs.Cut.{lent}
 use Rattle.events.specs.Links.{Parts, countsFit, progressFits, phaseOf, bareOf, viewOf, whole, Live}
 use Rattle.events.specs.Plans.{Said, told, replyBytes, Says}
-use Rattle.planning.specs.Feeding.{saying, fedOf, fedFrom}
+use Rattle.planning.specs.Feeding.{saying, fedOf, fedFrom, Feeds, Plans}
 use Rattle.planning.specs.Completing.{asked, handed}
 use Rattle.events.specs.declared.state.Counts.{Counts}
 use Rattle.events.specs.declared.state.Link.{Link}
 use Rattle.events.specs.declared.plan.Plan.{Plan}
-use Rattle.events.proofs.Fits.{counts-known, even-counts}
+use Rattle.events.proofs.Fits.{attached-known, counts-known, even-counts}
 use Rattle.events.proofs.Saying.{view-fit}
 
 -- ## A session that isn't closed
@@ -85,6 +85,83 @@ pub feed-clear : (closed : Bool) (work reply : ℕ) → first (Verdicts.feedTest
 feed-clear closed work reply f =
     let k = clear (Verdicts.feedTests closed work reply) (Verdicts.feedRows (closed ≡ true) work reply) (feed-match closed work reply (closed ≡ true) ((λ h. h), λ h. h)) f in
     (not-true closed (k .0), least work Limits.WORK-LEN (λ l. k .1 .0 (inl l)), least reply Limits.REPLY-LEN (λ l. k .1 .0 (inr l)))
+
+-- in which phase the bytes are taken, as the code tests it
+module _ (k : Link) (n phase : ℕ) (p : phase ≡ phaseOf k n) where
+  abbrev phased : Bool → Bool → ℕ
+  phased a b = cond (a && b) (k .phase) Limits.CLOSED
+
+  pub in-phase : (x : ℕ) → eqb Limits.CLOSED x ≡ false → not (eqb phase x) ≡ false → (countsFit (k .counts) n ≡ true) × (progressFits (k .phase) (k .progress) ≡ true) × (k .phase ≡ x)
+  unfolding phaseOf
+  in-phase x d h = at (countsFit (k .counts) n) (progressFits (k .phase) (k .progress)) (ap (λ (y : ℕ). not (eqb y x)) (sym p) ∙ h)
+    where
+      is : (c : Bool) → eqb (k .phase) x ≡ c → not c ≡ false → k .phase ≡ x
+      is true e h = eqb-true (k .phase) x e
+      is false e h = absurd (true≢false h)
+
+      shut : {A : Type 0} → not (eqb Limits.CLOSED x) ≡ false → A
+      shut h = absurd (true≢false (ap not (sym d) ∙ h))
+
+      at : (a b : Bool) → not (eqb (phased a b) x) ≡ false → (a ≡ true) × (b ≡ true) × (k .phase ≡ x)
+      at true true h = (refl, refl, is (eqb (k .phase) x) refl h)
+      at true false h = shut h
+      at false b h = shut h
+
+  pub closed-waits : k .phase ≡ Limits.WAITING → not (eqb phase Limits.WAITING) ≡ eqb (phaseOf k n) Limits.CLOSED
+  unfolding phaseOf
+  closed-waits w = rw p (at (countsFit (k .counts) n) (progressFits (k .phase) (k .progress)))
+    where
+      at : (a b : Bool) → not (eqb (phased a b) Limits.WAITING) ≡ eqb (phased a b) Limits.CLOSED
+      at true true = rw w
+      at true false = refl
+      at false b = refl
+
+  pub closed-away : (k .phase ≡ Limits.WAITING → ⊥) → not (eqb phase Limits.ATTACHED) ≡ eqb (phaseOf k n) Limits.CLOSED
+  unfolding phaseOf
+  closed-away w = rw p (at (countsFit (k .counts) n) (progressFits (k .phase) (k .progress)) refl)
+    where
+      at : (a b : Bool) → progressFits (k .phase) (k .progress) ≡ b → not (eqb (phased a b) Limits.ATTACHED) ≡ eqb (phased a b) Limits.CLOSED
+      at true true e = rw (attached-known (k .phase) (k .progress) e w .0)
+      at true false e = refl
+      at false b e = refl
+
+-- a refusal says nothing
+pub silent : (r : Plan) (t : Table) (l : Pending) (s : Sess) (n used : ℕ) → Says r t l s used (Event.refusal n) → length (replyBytes t (r .reply)) ≡ 0
+unfolding told replyTo
+silent r t l s n used y = ap (λ (x : Said). x .written) (y .told [] (lent [] []))
+
+-- the plan of a feed, by the verdict on the phase and the buffers
+module _ (r : Plan) (t : Table) (k : Link) (l : Pending) (piece : List ℕ) (closed : Bool) (work reply : ℕ) (e : closed ≡ eqb (phaseOf k (l .count)) Limits.CLOSED) where
+  abbrev s : Parts
+  s = whole t k l
+
+  fed-by : (b : Buffers) → Verdicts.feedTests closed (length (b .work)) (length (b .reply)) ≡ feedTests (viewOf s) b
+  fed-by b = rw e
+
+  pub plans-refusal : (n : ℕ) → first (Verdicts.feedTests closed work reply) ≡ some n → Says r t l (viewOf s) 0 (Event.refusal n) → Plans r t k l piece work reply
+  plans-refusal n f y =
+      record {
+        placed = y .placed;
+        inside = omega (arith, y .copies .2);
+        room = omega (arith, y .copies .0, y .copies .1, y .copies .2);
+        takes = λ _. omega (arith, silent r t l (viewOf s) n 0 y);
+        fed = λ b hw hr. y .told piece b ∙ sym (feed-refused (viewOf s) b piece n (ap first (sym (fed-by b)) ∙ rw (hw, hr) f));
+      }
+
+  pub plans-feed : first (Verdicts.feedTests closed work reply) ≡ none → Live s → Feeds r t l 0 (bareOf s) piece → Plans r t k l piece work reply
+  plans-feed f v y =
+      let c = feed-clear closed work reply f in
+      record {
+        placed = y .placed;
+        inside = y .inside;
+        room = omega (arith, y .room, c .1);
+        takes = λ h. omega (arith, c .2);
+        fed =
+            λ b hw hr.
+            y .fed b
+            ∙ ap (λ (x : Sess). fedFrom 0 x b piece) (sym (live-view s v))
+            ∙ sym (feed-goes (viewOf s) b piece (ap first (sym (fed-by b)) ∙ rw (hw, hr) f));
+      }
 
 -- ## Completing
 
@@ -152,9 +229,6 @@ module _ (s : Parts) (phase : ℕ) (p : phase ≡ phaseOf (s .link) (s .pending 
       → Verdicts.completeTests (asked phase held u status actual (length frame) (length header)) ≡ completeTests (viewOf s) (handed ticket status actual frame header)
   judged-by held u ticket status actual frame header f e = rw (p, f, e)
 
-  pub fed-by : (b : Buffers) → Verdicts.feedTests (eqb phase Limits.CLOSED) (length (b .work)) (length (b .reply)) ≡ feedTests (viewOf s) b
-  fed-by b = rw p
-
   pub live-phase : eqb phase Limits.CLOSED ≡ false → Live s
   live-phase h = live s (ap (λ (n : ℕ). eqb n Limits.CLOSED) (sym p) ∙ h)
 
@@ -168,8 +242,3 @@ module _ (s : Sess) where
   pub close-ends : Model.closed s ≡ false → closeOf s ≡ record { event = Event.end (tickets (s .pend)); next = Model.between (Model.act s (Model.drop-all (tickets (s .pend)))) }
   unfolding closeOf pick
   close-ends h = rw h
-
--- a refusal says nothing
-pub silent : (r : Plan) (t : Table) (l : Pending) (s : Sess) (n used : ℕ) → Says r t l s used (Event.refusal n) → length (replyBytes t (r .reply)) ≡ 0
-unfolding told replyTo
-silent r t l s n used y = ap (λ (x : Said). x .written) (y .told [] (lent [] []))

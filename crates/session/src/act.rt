@@ -13,12 +13,14 @@ use crate::carry::dropped_tickets;
 use crate::carry::write_header;
 use crate::carry::write_reply;
 use crate::state::Session;
+use events::plan::Plan;
 use exports::device::Table;
 use pending::list::Pending;
 use planning::completion::judge_completion;
 use planning::ends::fresh_link;
 use planning::ends::plan_close;
-use planning::feed::plan_feed;
+use planning::feed::plan_message;
+use planning::feed::plan_request;
 use tables::is_good;
 use verdicts::limits::BAD_TABLE;
 use verdicts::limits::CLOSED;
@@ -28,7 +30,7 @@ ghost use mathlib.Core.Path.{_≡_};
 ghost use Rattle.model.specs.Model.{numbersOf, openOf, completeOf, closeOf};
 ghost use Rattle.model.specs.Cut.{lent};
 ghost use Rattle.events.specs.Answers.{droppedBeside};
-ghost use Rattle.planning.specs.Feeding.{fedOf};
+ghost use Rattle.planning.specs.Feeding.{Plans, fedOf};
 ghost use Rattle.planning.specs.Completing.{handed};
 ghost use Rattle.session.specs.Views.{viewOf, fresh, fedAs, numbersAs, openAnswer, completedAs, closedAs};
 
@@ -43,6 +45,19 @@ fn fresh_session(table: Table, phase: u8) -> Session
         link: link,
         pending: pending,
     }
+}
+
+// The plan for a piece, with buffers of these lengths. (The table, most of the session, is handed on only to a session that
+// waits.)
+fn plan_feed(s: Session, piece: &[u8], work: usize, reply: usize) -> Plan
+    ensures { λ r. ⌜ Plans r (s .table) (s .link) (s .pending) (now (piece .entry)) work reply ⌝ }
+{
+    let link = s.link;
+    let list = s.pending;
+    if link.phase == WAITING {
+        return plan_request(s.table, link, list.count, piece, work, reply);
+    }
+    plan_message(link, list, piece, work, reply)
 }
 
 impl Session {
@@ -68,10 +83,8 @@ impl Session {
     pub fn feed(self, piece: &[u8], work: &mut [u8], reply: &mut [u8]) -> Fed
         ensures { λ r. ⌜ fedAs r (now (work .exit)) (now (reply .exit)) ≡ fedOf (viewOf self) (lent (now (work .entry)) (now (reply .entry))) (now (piece .entry)) ⌝ }
     {
-        let table = self.table;
         let list = self.pending;
-        let link = self.link;
-        let plan = plan_feed(table, link, list, piece, work.len(), reply.len());
+        let plan = plan_feed(self, piece, work.len(), reply.len());
         let next = plan.link;
         let change = plan.change;
         let event = plan.event;
@@ -80,7 +93,7 @@ impl Session {
         let pending = changed_list(list, change, setup);
         let dropped = dropped_tickets(list, change);
         copy_data(piece, plan.from, plan.to, plan.body, work);
-        let n = write_reply(table, said, reply);
+        let n = write_reply(self.table, said, reply);
         let answer = Answer {
             event: event,
             consumed: plan.consumed,

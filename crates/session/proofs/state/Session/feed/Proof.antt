@@ -9,7 +9,7 @@ use Rattle.session.proofs.state.Session.feed.Statement.{statement}
 use Rattle.session.proofs.state.Session.feed.Tie as tie
 use Rattle.session.proofs.state.Session.feed.Reads as reads
 use Rattle.session.proofs.state.Session.feed.Lts as lts
-use Rattle.planning.proofs.feed.plan_feed.Reads as plan-feed-reads
+use Rattle.session.proofs.act.plan_feed.Reads as plan-feed-reads
 use Rattle.session.proofs.carry.changed_list.Reads as changed-list-reads
 use Rattle.session.proofs.carry.copy_data.Reads as copy-data-reads
 use Rattle.session.proofs.carry.dropped_tickets.Reads as dropped-tickets-reads
@@ -43,7 +43,7 @@ returns c =
     let t = d .before .before in
     let l = t .before in
     let f = l .before .before .before in
-    let s = f .before .before .before .before .before .before .before in
+    let s = f .before .before .before .before .before in
     let a = s .args in
     let q = f .plan-feed .result in
     let room = f .plan-feed .ensures .takes (r .write-reply .ensures .1) in
