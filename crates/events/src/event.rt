@@ -24,6 +24,7 @@ use pending::list::Place;
 use pending::urb::Transfer;
 use verdicts::limits::ATTACHED;
 use verdicts::limits::CLOSED;
+use verdicts::limits::LAST_TICKET;
 use verdicts::verdict::Verdict;
 use verdicts::verdict::submit_verdict;
 use wire::codes::HEADER_LEN;
@@ -89,11 +90,14 @@ pub fn refused(old: Link, number: u32) -> Plan
     plain_plan(old, Change::Keep, Event::Refused(number), 0, Reply::Silent)
 }
 
-// A count with so many more. (Counts that fit together never wrap: none is above the tickets given.)
+// A count with so many more. (Of counts that fit together none is above the tickets given, so the sum is always there.)
 fn counted(count: u64, more: u64) -> u64
     ensures { λ r. ⌜ ((limit : ℕ) → Fits w64 limit → count + more ≤ limit → r ≡ count + more) ⌝ }
 {
-    std::num::wrapping_add_u64(count, more)
+    if LAST_TICKET - count < more {
+        return count;
+    }
+    count + more
 }
 
 // The link of a session that ends with so many URBs pending.

@@ -6,13 +6,10 @@ use lib.ListN.{replicate}
 use Rattle.wire.specs.Codes
 use Rattle.wire.specs.Status.{minus}
 use Rattle.pending.specs.declared.urb.Urb.{Urb}
-use Rattle.events.specs.declared.answer.Removed.the-variants.{Ticket, Nothing}
-use Rattle.events.specs.declared.answer.Completion.the-variants.{Return, Refused}
 use Rattle.model.specs.Model.{Event}
 use Rattle.numerals.specs.Digits
 use Rattle.numerals.specs.Digits.{ascii}
 use Rattle.lines.specs.Lines.{linesOf, completionLines, endLine}
-use Rattle.lines.specs.Traces.{feedTrace, recordTrace, dataTrace, removedTrace, headerTrace}
 
 -- 000's CmdIntrIN, as the first of a session
 abbrev urb : Urb
@@ -43,15 +40,3 @@ pub other-lines :
     ≡ ascii "list\nanswer 3334 -19\nunlink 3335 -104\nbroken 12\ndropped 2\ndropped 10\nrefused 3\nclosed\ndropped 4\n"
 unfolding Digits.numeral Digits.digits
 other-lines = refl
-
-pub traces :
-    feedTrace 48 0 []
-    ++ recordTrace urb
-    ++ dataTrace (0x0f ∷ 0xa0 ∷ [])
-    ++ removedTrace (Ticket 7)
-    ++ removedTrace Nothing
-    ++ headerTrace (Return 112) (0 ∷ 3 ∷ [])
-    ++ headerTrace (Refused 3) (0 ∷ 3 ∷ [])
-    ≡ ascii "feed 48 0 -\nrecord 1 3333 1 1 512 64 4294967295 0 4 0000000000000000\ndata 0fa0\nremoved 7\nremoved -\nheader 112 0003\nheader 0 -\n"
-unfolding Digits.numeral Digits.digits
-traces = refl

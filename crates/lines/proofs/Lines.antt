@@ -1,15 +1,13 @@
--- A line behind other text, and the fields that have two cases.
+-- A line behind other text, and an unlink's line.
 use Prim.Native.Nat.{ℕ}
 use mathlib.Core.Path.{_≡_, refl, ap, _∙_}
 use mathlib.Core.List.{List, [], _∷_, _++_, append-assoc}
-use native.Mathlib.Omega.{arith}
-use lib.ListN.{length}
 use Rattle.events.specs.Answers.{removed}
 use Rattle.events.specs.declared.answer.Removed.{Removed}
 use Rattle.events.specs.declared.answer.Removed.the-variants.{Ticket, Nothing}
-use Rattle.numerals.specs.Digits.{ascii, decimal, statusText, hexOf}
-use Rattle.lines.specs.Traces.{hexField}
-use Rattle.lines.specs.Lines.{fields, lineOf, line, linesOf}
+use Rattle.numerals.specs.Digits.{ascii, decimal, statusText}
+use Rattle.numerals.specs.Texts.{fields, lineOf, line}
+use Rattle.lines.specs.Lines.{linesOf}
 
 fields-behind : (T w : List ℕ) (fs : List (List ℕ)) → fields (T ++ w) fs ≡ T ++ fields w fs
 fields-behind T w [] = refl
@@ -22,12 +20,3 @@ line-behind T w fs = ap (λ (x : List ℕ). x ++ ascii "\n") (fields-behind T w 
 pub unlink-lines : (seqnum status : ℕ) (r : Removed) → linesOf (removed seqnum status r) ≡ line "unlink" (decimal seqnum ∷ statusText status ∷ [])
 unlink-lines seqnum status (Ticket t) = refl
 unlink-lines seqnum status Nothing = refl
-
--- bytes as a field
-pub hex-some : (bytes : List ℕ) → (length bytes ≡ 0 → ⊥) → hexField bytes ≡ hexOf bytes
-hex-some [] h = absurd (h refl)
-hex-some (b ∷ bs) h = refl
-
-pub hex-none : (bytes : List ℕ) → length bytes ≡ 0 → hexField bytes ≡ ascii "-"
-hex-none [] h = refl
-hex-none (b ∷ bs) h = absurd (omega arith)

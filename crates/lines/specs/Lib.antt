@@ -1,3 +1,2 @@
--- What a reader of this crate must believe: the lines that the programs print.
+-- What a reader of this crate must believe: the lines that `replay` prints.
 pub mod Lines
-pub mod Traces

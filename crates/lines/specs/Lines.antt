@@ -1,23 +1,11 @@
 -- The lines of `replay` (01, "The replay tape"): tickets, seqnums, lengths and counts in decimal, statuses in signed decimal.
 use Prim.Native.Nat.{ℕ}
-use Prim.Native.String.{String}
 use mathlib.Core.List.{List, [], _∷_, _++_}
 use Rattle.wire.specs.Fields.{joined}
 use Rattle.pending.specs.Pending.{ticketOf, seqnumOf}
 use Rattle.model.specs.Model.{Event, Numbers}
 use Rattle.numerals.specs.Digits.{ascii, decimal, statusText}
-
--- A text with more fields, each behind a space.
-abbrev pub fields : List ℕ → List (List ℕ) → List ℕ
-fields text [] = text
-fields text (f ∷ fs) = fields (text ++ (ascii " " ++ f)) fs
-
--- A word, its fields, and a newline.
-abbrev pub lineOf : List ℕ → List (List ℕ) → List ℕ
-lineOf word fs = fields word fs ++ ascii "\n"
-
-abbrev pub line : String → List (List ℕ) → List ℕ
-line word fs = lineOf (ascii word) fs
+use Rattle.numerals.specs.Texts.{line}
 
 abbrev pub dropped : ℕ → List ℕ
 dropped ticket = line "dropped" (decimal ticket ∷ [])

@@ -1,3 +1,2 @@
-// The lines that the programs print, as bytes. What each is stands in specs/.
+// The lines that `replay` prints, as bytes. What each is stands in specs/.
 pub mod replay;
-pub mod trace;

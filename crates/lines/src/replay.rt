@@ -24,8 +24,8 @@ ghost use Rattle.pending.specs.Pending.{MAX-PENDING};
 ghost use Rattle.events.specs.Answers.{eventOf, completionOf, closingOf};
 ghost use Rattle.session.specs.Views.{numbersAs};
 ghost use Rattle.numerals.specs.Digits.{decimal, statusText};
-ghost use Rattle.numerals.specs.Texts.{TEXT-LEN, WORD-LEN, LINE-LEN, DROPPED-LEN, textOf, Holds};
-ghost use Rattle.lines.specs.Lines.{lineOf, line, linesOf, completionLines, endLine, badTapeLine};
+ghost use Rattle.numerals.specs.Texts.{TEXT-LEN, WORD-LEN, LINE-LEN, DROPPED-LEN, lineOf, line, textOf, Holds};
+ghost use Rattle.lines.specs.Lines.{linesOf, completionLines, endLine, badTapeLine};
 ghost use Rattle.lines.specs.Lines.{dropped as droppedLine};
 
 // A word by itself.

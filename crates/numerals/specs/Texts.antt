@@ -1,10 +1,24 @@
--- Text that the code puts together by value.
+-- Lines, and the text that the code puts together by value.
 use Prim.Native.Nat.{ℕ, _+_, _*_, _≤_}
+use Prim.Native.String.{String}
 use mathlib.Core.Path.{_≡_}
-use mathlib.Core.List.{List}
+use mathlib.Core.List.{List, [], _∷_, _++_}
 use lib.ListN.{take}
 use Rattle.pending.specs.Pending.{MAX-PENDING}
+use Rattle.numerals.specs.Digits.{ascii}
 use Rattle.numerals.specs.declared.text.Text.{Text}
+
+-- A text with more fields, each behind a space.
+abbrev pub fields : List ℕ → List (List ℕ) → List ℕ
+fields text [] = text
+fields text (f ∷ fs) = fields (text ++ (ascii " " ++ f)) fs
+
+-- A word, its fields, and a newline.
+abbrev pub lineOf : List ℕ → List (List ℕ) → List ℕ
+lineOf word fs = fields word fs ++ ascii "\n"
+
+abbrev pub line : String → List (List ℕ) → List ℕ
+line word fs = lineOf (ascii word) fs
 
 -- The most that a word takes; a field, with the space before it; a line that isn't traced; a line of a dropped ticket.
 abbrev pub WORD-LEN : ℕ

@@ -16,7 +16,7 @@ use Rattle.session.specs.declared.answer.Closed.{Closed}
 use Rattle.tape.specs.Table.{deviceData}
 use Rattle.tape.specs.declared.reader.Record.{Record}
 use Rattle.lines.specs.Lines.{linesOf}
-use Rattle.lines.specs.Traces.{headerTrace}
+use Rattle.traces.specs.Traces.{headerTrace}
 use Rattle.player.specs.Play.{Puts, headerText, completionText, playCompletion, playClose, playRecord}
 use Rattle.player.specs.Played.{Plays}
 use Rattle.player.specs.declared.record.Played.{Played}

@@ -11,7 +11,7 @@ use Rattle.wire.proofs.Parts.{wrote-all, wrote-count, written-behind}
 use Rattle.events.specs.Answers.{removed}
 use Rattle.events.specs.declared.answer.Removed.{Removed}
 use Rattle.events.specs.declared.answer.Removed.the-variants.{Ticket, Nothing}
-use Rattle.lines.specs.Traces.{removedTrace}
+use Rattle.traces.specs.Traces.{removedTrace}
 use Rattle.player.specs.Play.{Puts, besideText, ends}
 
 -- the part of a slice from a place to its end

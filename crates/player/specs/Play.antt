@@ -20,7 +20,7 @@ use Rattle.tape.specs.Table.{deviceData}
 use Rattle.tape.specs.declared.reader.Record.{Record}
 use Rattle.tape.specs.declared.reader.Record.the-variants.{Stream, Completion, Close}
 use Rattle.lines.specs.Lines.{linesOf, completionLines}
-use Rattle.lines.specs.Traces.{feedTrace, recordTrace, dataTrace, removedTrace, headerTrace}
+use Rattle.traces.specs.Traces.{feedTrace, recordTrace, dataTrace, removedTrace, headerTrace}
 
 -- Lines are put at the front of a buffer: as many bytes as are said, which the buffer has; and where it has room for all the
 -- lines, they stand there whole, and the rest is unchanged.

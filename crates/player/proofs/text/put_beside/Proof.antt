@@ -4,7 +4,7 @@ use Rattle.player.proofs.text.put_beside.Statement.{statement}
 use Rattle.player.proofs.text.put_beside.Tie as tie
 use Rattle.player.proofs.text.put_beside.Reads as reads
 use Rattle.player.proofs.text.put_beside.Lts as lts
-use Rattle.lines.proofs.trace.trace_removed.Reads as trace-removed-reads
+use Rattle.traces.proofs.trace_removed.Reads as trace-removed-reads
 use Rattle.player.proofs.text.put_submit.Reads as put-submit-reads
 
 enum-known-event : tie.Need-enum-known-event

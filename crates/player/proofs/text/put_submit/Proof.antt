@@ -4,7 +4,7 @@ use mathlib.Core.Path.{refl, sym}
 use mathlib.Core.List.{List, _++_}
 use lib.ListN.{length, take, drop}
 use Rattle.pending.specs.declared.urb.Urb.{Urb}
-use Rattle.lines.specs.Traces.{recordTrace, dataTrace}
+use Rattle.traces.specs.Traces.{recordTrace, dataTrace}
 use Rattle.player.specs.Play.{Puts, dataLength, submitText}
 use Rattle.player.proofs.Puts.{puts-wrote, puts-next}
 use borrow.Author.Needs.{needs}
@@ -12,8 +12,8 @@ use Rattle.player.proofs.text.put_submit.Statement.{statement}
 use Rattle.player.proofs.text.put_submit.Tie as tie
 use Rattle.player.proofs.text.put_submit.Reads as reads
 use Rattle.player.proofs.text.put_submit.Lts as lts
-use Rattle.lines.proofs.trace.trace_data.Reads as trace-data-reads
-use Rattle.lines.proofs.trace.trace_record.Reads as trace-record-reads
+use Rattle.traces.proofs.trace_data.Reads as trace-data-reads
+use Rattle.traces.proofs.trace_record.Reads as trace-record-reads
 use Rattle.player.proofs.text.data_len.Reads as data-len-reads
 use Rattle.player.proofs.text.front.Reads as front-reads
 

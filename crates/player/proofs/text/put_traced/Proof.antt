@@ -5,7 +5,7 @@ use mathlib.Core.List.{List, _++_}
 use lib.ListN.{length, take, drop}
 use Rattle.model.specs.Model.{Event}
 use Rattle.events.specs.Answers.{eventOf}
-use Rattle.lines.specs.Traces.{feedTrace}
+use Rattle.traces.specs.Traces.{feedTrace}
 use Rattle.player.specs.Play.{Puts, besideText, tracedText}
 use Rattle.player.proofs.Puts.{puts-wrote, puts-next}
 use borrow.Author.Needs.{needs}
@@ -13,7 +13,7 @@ use Rattle.player.proofs.text.put_traced.Statement.{statement}
 use Rattle.player.proofs.text.put_traced.Tie as tie
 use Rattle.player.proofs.text.put_traced.Reads as reads
 use Rattle.player.proofs.text.put_traced.Lts as lts
-use Rattle.lines.proofs.trace.trace_feed.Reads as trace-feed-reads
+use Rattle.traces.proofs.trace_feed.Reads as trace-feed-reads
 use Rattle.player.proofs.text.front.Reads as front-reads
 use Rattle.player.proofs.text.put_beside.Reads as put-beside-reads
 

@@ -10,8 +10,7 @@ use Rattle.events.specs.declared.answer.Removed.the-variants.{Ticket, Nothing}
 use Rattle.events.specs.declared.answer.Completion.{Completion}
 use Rattle.events.specs.declared.answer.Completion.the-variants.{Return, Refused}
 use Rattle.numerals.specs.Digits.{ascii, decimal, hexOf}
-use Rattle.numerals.specs.Texts.{WORD-LEN, FIELD-LEN}
-use Rattle.lines.specs.Lines.{line}
+use Rattle.numerals.specs.Texts.{WORD-LEN, FIELD-LEN, line}
 
 -- Bytes as a field: a dash where there is none.
 abbrev pub hexField : List ℕ → List ℕ

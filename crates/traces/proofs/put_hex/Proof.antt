@@ -1,12 +1,12 @@
 use mathlib.Core.List.{append-assoc}
 use Rattle.numerals.specs.Digits.{ascii, hexOf}
 use Rattle.numerals.specs.Texts.{textOf}
-use Rattle.lines.proofs.Lines.{hex-none, hex-some}
+use Rattle.traces.proofs.Fields.{hex-none, hex-some}
 use borrow.Author.Needs.{needs}
-use Rattle.lines.proofs.trace.put_hex.Statement.{statement}
-use Rattle.lines.proofs.trace.put_hex.Tie as tie
-use Rattle.lines.proofs.trace.put_hex.Reads as reads
-use Rattle.lines.proofs.trace.put_hex.Lts as lts
+use Rattle.traces.proofs.put_hex.Statement.{statement}
+use Rattle.traces.proofs.put_hex.Tie as tie
+use Rattle.traces.proofs.put_hex.Reads as reads
+use Rattle.traces.proofs.put_hex.Lts as lts
 use Rattle.numerals.proofs.text.added.Reads as added-reads
 use Rattle.numerals.proofs.text.put.Reads as put-reads
 use Rattle.numerals.proofs.text.put_bytes.Reads as put-bytes-reads

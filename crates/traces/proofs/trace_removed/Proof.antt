@@ -1,8 +1,8 @@
 use borrow.Author.Needs.{needs}
-use Rattle.lines.proofs.trace.trace_removed.Statement.{statement}
-use Rattle.lines.proofs.trace.trace_removed.Tie as tie
-use Rattle.lines.proofs.trace.trace_removed.Reads as reads
-use Rattle.lines.proofs.trace.trace_removed.Lts as lts
+use Rattle.traces.proofs.trace_removed.Statement.{statement}
+use Rattle.traces.proofs.trace_removed.Tie as tie
+use Rattle.traces.proofs.trace_removed.Reads as reads
+use Rattle.traces.proofs.trace_removed.Lts as lts
 use Rattle.numerals.proofs.text.begun.Reads as begun-reads
 use Rattle.numerals.proofs.text.ended.Reads as ended-reads
 use Rattle.numerals.proofs.text.put.Reads as put-reads

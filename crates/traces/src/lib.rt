@@ -1,4 +1,4 @@
-// The lines that the program `trace` adds to those of `replay`.
+// The lines that the program `trace` adds to those of `replay`, as bytes. What each is stands in specs/.
 use events::answer::Completion;
 use events::answer::Removed;
 use numerals::text::Text;
@@ -16,9 +16,8 @@ ghost use Prim.Native.Nat.{_+_, _*_, _≤_};
 ghost use mathlib.Core.List.{[], _∷_};
 ghost use Rattle.wire.specs.Writing.{Wrote};
 ghost use Rattle.numerals.specs.Digits.{ascii, decimal};
-ghost use Rattle.numerals.specs.Texts.{TEXT-LEN, FIELD-LEN, textOf, Holds};
-ghost use Rattle.lines.specs.Lines.{lineOf, fields};
-ghost use Rattle.lines.specs.Traces.{RECORD-LEN, hexField, feedTrace, numbersOf, recordTrace, dataTrace, removedTrace, headerTrace};
+ghost use Rattle.numerals.specs.Texts.{TEXT-LEN, FIELD-LEN, fields, lineOf, textOf, Holds};
+ghost use Rattle.traces.specs.Traces.{RECORD-LEN, hexField, feedTrace, numbersOf, recordTrace, dataTrace, removedTrace, headerTrace};
 
 // A line whose last field is bytes.
 fn put_hex(t: Text, bytes: &[u8], out: &mut [u8]) -> usize

@@ -1,9 +1,9 @@
 use native.Mathlib.Omega.{arith}
 use borrow.Author.Needs.{needs}
-use Rattle.lines.proofs.trace.with_four.Statement.{statement}
-use Rattle.lines.proofs.trace.with_four.Tie as tie
-use Rattle.lines.proofs.trace.with_four.Reads as reads
-use Rattle.lines.proofs.trace.with_four.Lts as lts
+use Rattle.traces.proofs.with_four.Statement.{statement}
+use Rattle.traces.proofs.with_four.Tie as tie
+use Rattle.traces.proofs.with_four.Reads as reads
+use Rattle.traces.proofs.with_four.Lts as lts
 use Rattle.numerals.proofs.text.with_number.Reads as with-number-reads
 
 with-number-requires : tie.Need-with-number-requires

@@ -1,0 +1,3 @@
+-- Bytes as a field, and examples of the lines.
+pub mod Examples
+pub mod Fields
