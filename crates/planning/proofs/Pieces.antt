@@ -9,8 +9,6 @@ use lib.Seq.{sets, take-all, take-at, drop-drop, length-take-le}
 use borrow.Author.Tests.{lt-ltb, le-leb, ltb-true, ltb-false}
 use lib.Dec.{eqb, ltb}
 use Rattle.wire.specs.Codes
-use Rattle.wire.specs.Writing.{Wrote}
-use Rattle.wire.proofs.Parts.{written-next, over-front}
 use Rattle.messages.specs.Messages.{requestOf, busidOf, commandOf, submitOf, unlinkOf}
 use Rattle.messages.specs.declared.message.Submit.{Submit}
 use Rattle.pending.specs.declared.urb.Urb.{Urb}
@@ -40,16 +38,6 @@ use Rattle.planning.proofs.Moments.{at-body, calm-body, grows-body}
 use Rattle.planning.proofs.Stages.{Calm, waits, tells, header-waits, header-tells, header-goes-on}
 
 -- ## A header that grows
-
--- bytes written behind those that came before
-pub fill : (head bytes ys : List ℕ) (filled count : ℕ) → length head ≡ Codes.HEADER-LEN → filled + length bytes ≤ Codes.HEADER-LEN
-    → Wrote bytes (take (Codes.HEADER-LEN - filled) (drop filled head)) ys count
-    → take (filled + length bytes) (take filled head ++ (ys ++ drop (Codes.HEADER-LEN - filled) (drop filled head))) ≡ take filled head ++ bytes
-fill head bytes ys filled count l h w =
-    let n : length (take filled head) ≡ filled = length-take-le filled head (omega arith) in
-    let e = written-next head head (take filled head) bytes ys filled Codes.HEADER-LEN count l n (sym (over-front filled head (omega arith))) h w in
-    let k : length (take filled head ++ bytes) ≡ filled + length bytes = length-append (take filled head) bytes ∙ omega arith in
-    ap (take (filled + length bytes)) e ∙ take-at (take filled head ++ bytes) (drop (length (take filled head ++ bytes)) head) (filled + length bytes) k
 
 -- what stands in the first bytes, the others don't change
 pub busid-front : (head : List ℕ) (n : ℕ) → length head ≡ Codes.HEADER-LEN → n ≡ Codes.OP-LEN + Codes.BUSID-LEN → busidOf (take n head) ≡ busidOf head

@@ -1,7 +1,8 @@
 use mathlib.Core.Path.{_∙_}
 use Prim.Native.Nat.{_-_}
 use borrow.Rule.Slice.PartMut.{same-len-mid}
-use Rattle.planning.proofs.Pieces.{fill}
+use Rattle.wire.specs.Codes
+use Rattle.wire.proofs.Parts.{filled-front}
 use Rattle.records.proofs.Records.{unmapped}
 use Rattle.wire.specs.Codes.{HEADER-LEN}
 use lib.ListN.{length}
@@ -37,7 +38,7 @@ returns c =
     let w = c .before in
     let s = w .before .before .before .before in
     let a = s .args in (
-      fill (a .p .head) (a .bytes .now) (w .write .last .0) (a .p .filled) (w .write .result) (full s) (s .pre) (w .write .ensures),
+      filled-front Codes.HEADER-LEN (a .p .head) (a .bytes .now) (w .write .last .0) (a .p .filled) (w .write .result) (full s) (s .pre) (w .write .ensures),
       refl,
       refl,
       same-len-mid (a .p .filled) (HEADER-LEN - a .p .filled) (a .p .head) (w .write .last .0) (w .write .kept .0) ∙ full s,
