@@ -3,6 +3,7 @@ use libc::STDIN_FILENO;
 use tape::layout::MAX_RECORD_LEN;
 use tape::reader::wanted;
 ghost use Prim.Native.Nat.{_+_, _≤_};
+ghost use mathlib.Core.Path.{_≡_};
 ghost use lib.ListN.{length};
 
 // Some of the longest records.
@@ -13,6 +14,17 @@ pub struct Window {
     pub at: usize,
     pub end: usize,
     pub over: bool,
+}
+
+// Nothing was read yet.
+pub(crate) fn no_window() -> Window
+    ensures { λ r. ⌜ (r .at ≡ 0) × (r .end ≡ 0) ⌝ }
+{
+    Window {
+        at: 0,
+        end: 0,
+        over: false,
+    }
 }
 
 // Moves n bytes from a place to the front.

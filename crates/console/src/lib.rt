@@ -5,6 +5,7 @@ mod output;
 
 use crate::input::INPUT_LEN;
 use crate::input::Window;
+use crate::input::no_window;
 use crate::input::refill;
 use crate::output::OUTPUT_LEN;
 use crate::output::flush;
@@ -21,6 +22,13 @@ use tape::table::tape_table;
 use verdicts::limits::REPLY_LEN;
 use verdicts::limits::WORK_LEN;
 
+// Prints the lines in the buffer, and that a record doesn't read.
+fn print_bad_tape(out: &mut [u8], len: usize) {
+    flush(out, len);
+    let n = bad_tape_line(out);
+    flush(out, n);
+}
+
 // Plays the records of the tape, and gives the session that they leave.
 fn play_records(
     session: Session,
@@ -31,11 +39,7 @@ fn play_records(
     out: &mut [u8],
 ) -> Session {
     let mut s = session;
-    let mut window = Window {
-        at: 0,
-        end: 0,
-        over: false,
-    };
+    let mut window = no_window();
     let mut len: usize = 0;
     let mut n: usize = 0;
     while n <= MAX_RECORDS {
@@ -49,17 +53,16 @@ fn play_records(
         }
         let read = read_next(n, &input[at..end]);
         let Read::Record(r) = read else {
-            flush(out, len);
-            let m = bad_tape_line(out);
-            flush(out, m);
+            print_bad_tape(out, len);
             return s;
         };
         len = make_room(out, len);
         let played = play_record(s, traced, r, &input[at..end], work, reply, &mut out[len..]);
         s = played.session;
         len += played.len;
+        let next = at + record_len(r);
         window = Window {
-            at: at + record_len(r),
+            at: next,
             end: end,
             over: over,
         };

@@ -15,10 +15,11 @@ use Rattle.console.proofs.play_records.Statement.{statement}
 use Rattle.console.proofs.play_records.Tie as tie
 use Rattle.console.proofs.play_records.Reads as reads
 use Rattle.console.proofs.play_records.Lts as lts
+use Rattle.console.proofs.input.no_window.Reads as no-window-reads
 use Rattle.console.proofs.input.refill.Reads as refill-reads
 use Rattle.console.proofs.output.flush.Reads as flush-reads
 use Rattle.console.proofs.output.make_room.Reads as make-room-reads
-use Rattle.lines.proofs.replay.bad_tape_line.Reads as bad-tape-line-reads
+use Rattle.console.proofs.print_bad_tape.Reads as print-bad-tape-reads
 use Rattle.player.proofs.record.play_record.Reads as play-record-reads
 use Rattle.tape.proofs.reader.read_next.Reads as read-next-reads
 use Rattle.tape.proofs.reader.record_len.Reads as record-len-reads
@@ -36,6 +37,9 @@ Inv-loop traced input₀ work₀ reply₀ out₀ s₀ window₀ len₀ n₀ inpu
 
 abbrev μ-loop : tie.MeasureT-loop
 μ-loop traced input₀ work₀ reply₀ out₀ s₀ window₀ len₀ n₀ input work reply out s window len n = MAX-RECORDS + 1 - n
+
+no-window-requires : tie.Need-no-window-requires Inv-loop μ-loop
+no-window-requires c κs = search needs
 
 loop-holds : tie.Need-loop-holds Inv-loop μ-loop
 loop-holds c = search needs
@@ -79,14 +83,8 @@ enum-known-read c = search needs
 enum-told : tie.Need-enum-told Inv-loop μ-loop
 enum-told c = search needs
 
-flush-requires-2 : tie.Need-flush-requires-2 Inv-loop μ-loop
-flush-requires-2 c κs = search needs
-
-bad-tape-line-requires : tie.Need-bad-tape-line-requires Inv-loop μ-loop
-bad-tape-line-requires c κs = search needs
-
-flush-requires-3 : tie.Need-flush-requires-3 Inv-loop μ-loop
-flush-requires-3 c κs = search needs
+print-bad-tape-requires : tie.Need-print-bad-tape-requires Inv-loop μ-loop
+print-bad-tape-requires c κs = search needs
 
 same-length-5 : tie.Need-same-length-5 Inv-loop μ-loop
 same-length-5 c = search needs
@@ -141,10 +139,10 @@ abbrev roomy : tie.After-play-record Inv-loop μ-loop → tie.After-make-room In
 roomy p = p .before .before .before .before .before .before
 
 -- a length fits
-short : (l : tie.At-loop Inv-loop μ-loop) → length (l .before .before .before .before .before .args .out .now) < 2 ^ 64
+short : (l : tie.At-loop Inv-loop μ-loop) → length (l .before .before .before .before .before .before .args .out .now) < 2 ^ 64
 short l = omega arith
 
-long : (l : tie.At-loop Inv-loop μ-loop) → length (l .before .before .before .before .before .args .input .now) < 2 ^ 64
+long : (l : tie.At-loop Inv-loop μ-loop) → length (l .before .before .before .before .before .before .args .input .now) < 2 ^ 64
 long l = omega arith
 
 -- the turn isn't the last
@@ -177,8 +175,8 @@ add-len c =
 record-len-requires : tie.Need-record-len-requires Inv-loop μ-loop
 record-len-requires c κs = search needs
 
-add-t45 : tie.Need-add-t45 Inv-loop μ-loop
-add-t45 c =
+add-next : tie.Need-add-next Inv-loop μ-loop
+add-next c =
     let p = c .before .before .before .before .before .before .before .before .before in
     let w = refilled p .refill in
     let h : Fits w64 (w .result .at + c .record-len .result) = omega (arith, inside p, c .record-len .ensures, w .ensures .1, w .kept .0, loop p .loop .inv .4, long (loop p)) in
@@ -236,6 +234,7 @@ play-records-spec =
     (tie.spec
     Inv-loop
     μ-loop
+    no-window-requires
     loop-holds
     refill-requires
     flush-requires
@@ -250,9 +249,7 @@ play-records-spec =
     read-next-requires
     enum-known-read
     enum-told
-    flush-requires-2
-    bad-tape-line-requires
-    flush-requires-3
+    print-bad-tape-requires
     same-length-5
     same-length-6
     same-length-7
@@ -268,7 +265,7 @@ play-records-spec =
     play-record-requires
     add-len
     record-len-requires
-    add-t45
+    add-next
     add-n
     loop-less
     loop-again
