@@ -2,9 +2,9 @@
 use Prim.Native.Nat.{ℕ, suc, _+_, _*_, _≤_, _<_}
 use native.Mathlib.Omega.{arith}
 use mathlib.Core.Path.{_≡_, refl, sym, ap, subst, _∙_}
-use mathlib.Core.Bool.{Bool, true, false, cond, _&&_}
+use mathlib.Core.Bool.{Bool, true, false, cond, _&&_, true≢false}
 use mathlib.Core.List.{List}
-use lib.Dec.{ltb}
+use lib.Dec.{eqb, ltb}
 use lib.Seq.{take-all}
 use lib.ListN.{length, take, getD, replicate, length-map, length-take}
 use borrow.Author.Tests.{ltb-true, ltb-false}
@@ -36,7 +36,7 @@ use Rattle.verdicts.proofs.Match.{clear}
 use Rattle.verdicts.proofs.Tables.{submit-match}
 use Rattle.model.specs.Model.{Sess, Event, tell, after, replyTo, between, act, drop-all, lookedUp, urbFrom, urbOf, submitted, unlinks}
 use Rattle.model.specs.Cut.{lent}
-use Rattle.events.specs.Links.{Parts, countsFit, progressFits, phaseOf, during, bareOf, inPhase, viewOf, whole, resting, headed, Attached}
+use Rattle.events.specs.Links.{Parts, countsFit, progressFits, phaseOf, during, bareOf, inPhase, viewOf, whole, resting, headed, Attached, Live}
 use Rattle.events.specs.Answers.{eventOf, setupBeside, droppedBeside, ticketsOf}
 use Rattle.events.specs.Plans.{droppedBy, changed, replyBytes, dataOf, plain, Placed, Says, told}
 use Rattle.events.proofs.Fits.{counts-known, even-counts}
@@ -58,6 +58,20 @@ use lib.Seq.{sets}
 pub view-fit : (s : Parts) → countsFit (s .link .counts) (s .pending .count) ≡ true → progressFits (s .link .phase) (s .link .progress) ≡ true → viewOf s ≡ bareOf s
 unfolding phaseOf
 view-fit s c p = rw (c, p)
+
+-- a session that isn't closed
+module _ (s : Parts) where
+  pub live : eqb (phaseOf (s .link) (s .pending .count)) Limits.CLOSED ≡ false → Live s
+  unfolding phaseOf
+  live h = at (countsFit (s .link .counts) (s .pending .count)) (progressFits (s .link .phase) (s .link .progress)) h
+    where
+      at : (a b : Bool) → eqb (cond (a && b) (s .link .phase) Limits.CLOSED) Limits.CLOSED ≡ false → (a ≡ true) × (b ≡ true)
+      at true true h = (refl, refl)
+      at true false h = absurd (true≢false h)
+      at false b h = absurd (true≢false h)
+
+  pub live-view : Live s → viewOf s ≡ bareOf s
+  live-view l = view-fit s (l .0) (l .1)
 
 pub view-closed : (s : Parts) → s .link .phase ≡ Limits.CLOSED → viewOf s ≡ bareOf s
 unfolding phaseOf

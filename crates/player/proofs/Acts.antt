@@ -7,7 +7,7 @@ use lib.ListN.{replicate}
 use Rattle.wire.specs.Codes
 use Rattle.model.specs.Model.{Sess, Buffers, Complete, Close, completeOf, closeOf}
 use Rattle.events.specs.Answers.{completionOf, closingOf}
-use Rattle.planning.specs.Completing.{handed}
+use Rattle.settling.specs.Completing.{handed}
 use Rattle.session.specs.Views.{completedAs, closedAs}
 use Rattle.events.specs.declared.answer.Completion.{Completion}
 use Rattle.events.specs.declared.answer.Completion.the-variants.{Return, Refused}

@@ -16,7 +16,7 @@ use Rattle.verdicts.specs.Limits
 use Rattle.verdicts.specs.Tests.{decide, pick}
 use Rattle.model.specs.Machine.{feed}
 use Rattle.model.specs.Model.{Sess, Buffers, urbOf, bodyOf, submitted, submitting, headed, message, requested, lookedUp, request, judge, replyTo, grow, put, tell, feedOf, completeOf, closeOf, openOf}
-use Rattle.planning.specs.Feeding.{fedOf}
+use Rattle.feeding.specs.Feeding.{fedOf}
 use Rattle.tape.specs.Tape.{recordBytes}
 use Rattle.tape.specs.Table.{tapeTable}
 use Rattle.tape.specs.declared.reader.Record.{Record}

@@ -12,7 +12,7 @@ use Rattle.model.specs.Model.{Sess, Buffers}
 use Rattle.model.specs.Cut.{lent}
 use Rattle.model.proofs.Corollaries.{used-feed}
 use Rattle.events.specs.Plans.{Said}
-use Rattle.planning.specs.Feeding.{fedOf}
+use Rattle.feeding.specs.Feeding.{fedOf}
 use Rattle.session.specs.Views.{viewOf, fedAs}
 use Rattle.session.specs.declared.answer.Fed.{Fed}
 use Rattle.player.specs.Play.{Puts, saidText, ends, Play, alone, before, playStream}

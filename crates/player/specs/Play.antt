@@ -11,8 +11,8 @@ use Rattle.wire.specs.Writing.{over}
 use Rattle.pending.specs.declared.urb.Urb.{Urb}
 use Rattle.model.specs.Model.{Sess, Event, Buffers, completeOf, closeOf}
 use Rattle.events.specs.Plans.{Said}
-use Rattle.planning.specs.Feeding.{fedOf}
-use Rattle.planning.specs.Completing.{handed}
+use Rattle.feeding.specs.Feeding.{fedOf}
+use Rattle.settling.specs.Completing.{handed}
 use Rattle.events.specs.declared.answer.Removed.the-variants.{Ticket, Nothing}
 use Rattle.events.specs.declared.answer.Completion.the-variants.{Return, Refused}
 use Rattle.tape.specs.Tape.{streamOf}

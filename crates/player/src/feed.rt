@@ -12,7 +12,7 @@ ghost use lib.ListN.{length};
 ghost use Rattle.pending.specs.declared.list.Tickets.{Tickets};
 ghost use Rattle.model.specs.Cut.{lent};
 ghost use Rattle.events.specs.Answers.{eventOf};
-ghost use Rattle.planning.specs.Feeding.{fedOf};
+ghost use Rattle.feeding.specs.Feeding.{fedOf};
 ghost use Rattle.session.specs.Views.{viewOf};
 ghost use Rattle.player.specs.Play.{ends, playStream};
 ghost use Rattle.player.specs.Played.{Tells, Plays};

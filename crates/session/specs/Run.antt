@@ -10,7 +10,7 @@ use Rattle.model.specs.Book.{Call, feed, complete, close, Answer, Book, opened,
 use Rattle.model.specs.Claims.{Holds}
 use Rattle.model.specs.Corollaries.{sessionFrom, bookFrom}
 use Rattle.events.specs.Answers.{eventOf, completionOf, closingOf}
-use Rattle.planning.specs.Feeding.{fedOf}
+use Rattle.feeding.specs.Feeding.{fedOf}
 use Rattle.session.specs.Views.{viewOf, fedAs, openAnswer, completedAs, closedAs}
 use Rattle.session.specs.declared.state.Session.{Session}
 use Rattle.session.specs.declared.answer.Opening.{Opening}

@@ -11,7 +11,7 @@ use Rattle.model.specs.Cut.{lent}
 use Rattle.events.specs.Links
 use Rattle.events.specs.Answers.{eventOf, completionOf, closingOf}
 use Rattle.events.specs.Plans.{Said}
-use Rattle.planning.specs.Ends.{freshLink}
+use Rattle.settling.specs.Ends.{freshLink}
 use Rattle.session.specs.declared.state.Session.{Session}
 use Rattle.session.specs.declared.answer.Opening.{Opening}
 use Rattle.session.specs.declared.answer.Opening.the-variants.{Ready, Refused}

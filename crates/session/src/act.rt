@@ -15,12 +15,12 @@ use crate::carry::write_reply;
 use crate::state::Session;
 use events::plan::Plan;
 use exports::device::Table;
+use feeding::feed::plan_message;
+use feeding::feed::plan_request;
 use pending::list::Pending;
-use planning::completion::judge_completion;
-use planning::ends::fresh_link;
-use planning::ends::plan_close;
-use planning::feed::plan_message;
-use planning::feed::plan_request;
+use settling::completion::judge_completion;
+use settling::ends::fresh_link;
+use settling::ends::plan_close;
 use tables::is_good;
 use verdicts::limits::BAD_TABLE;
 use verdicts::limits::CLOSED;
@@ -30,8 +30,8 @@ ghost use mathlib.Core.Path.{_≡_};
 ghost use Rattle.model.specs.Model.{numbersOf, openOf, completeOf, closeOf};
 ghost use Rattle.model.specs.Cut.{lent};
 ghost use Rattle.events.specs.Answers.{droppedBeside};
-ghost use Rattle.planning.specs.Feeding.{Plans, fedOf};
-ghost use Rattle.planning.specs.Completing.{handed};
+ghost use Rattle.feeding.specs.Feeding.{Plans, fedOf};
+ghost use Rattle.settling.specs.Completing.{handed};
 ghost use Rattle.session.specs.Views.{viewOf, fresh, fedAs, numbersAs, openAnswer, completedAs, closedAs};
 
 // A session that nothing was said to yet.

@@ -2,3 +2,4 @@
 pub mod Deciding
 pub mod Match
 pub mod Tables
+pub mod Good

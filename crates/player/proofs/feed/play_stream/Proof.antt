@@ -10,7 +10,7 @@ use borrow.Author.Needs.{needs}
 use Rattle.model.specs.Model.{Buffers}
 use Rattle.model.specs.Cut.{lent}
 use Rattle.events.specs.Plans.{Said}
-use Rattle.planning.specs.Feeding.{fedOf}
+use Rattle.feeding.specs.Feeding.{fedOf}
 use Rattle.session.specs.Views.{viewOf}
 use Rattle.player.specs.Play.{saidText, playStream}
 use Rattle.player.specs.Played.{Tells}

@@ -7,8 +7,8 @@ use Rattle.session.proofs.act.plan_feed.Statement.{statement}
 use Rattle.session.proofs.act.plan_feed.Tie as tie
 use Rattle.session.proofs.act.plan_feed.Reads as reads
 use Rattle.session.proofs.act.plan_feed.Lts as lts
-use Rattle.planning.proofs.feed.plan_message.Reads as plan-message-reads
-use Rattle.planning.proofs.feed.plan_request.Reads as plan-request-reads
+use Rattle.feeding.proofs.feed.plan_message.Reads as plan-message-reads
+use Rattle.feeding.proofs.feed.plan_request.Reads as plan-request-reads
 
 whole-list : (c : tie.Start) → length (c .args .s .pending .urbs) ≡ MAX-PENDING
 whole-list c = search (unmapped, needs)

@@ -1,5 +1,0 @@
--- Why the plans are what the definitions say.
-pub mod Stages
-pub mod Moments
-pub mod Pieces
-pub mod Acts

@@ -1,0 +1,2 @@
+-- Why the plans are what the definitions say.
+pub mod Acts
