@@ -1,6 +1,9 @@
 # The two commands of the README.
 .PHONY: run test
 
+# The prover's many small files are quicker in memory, where there is such a folder.
+export TMPDIR ?= $(firstword $(wildcard /dev/shm) /tmp)
+
 # A tape as text (NAME.txt, see reference/README.md), or as bytes.
 TAPE ?= tapes/late-picture.txt
 

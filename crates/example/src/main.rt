@@ -1,0 +1,94 @@
+// A worked call of each act: the story of the late picture, told through the API. The client's stream comes on standard input: an
+// import request, a submit of sequence number 7, its unlink, and a submit of number 7 again.
+use events::answer::Completion;
+use events::answer::Event;
+use events::answer::Removed;
+use libc::STDIN_FILENO;
+use libc::STDOUT_FILENO;
+use session::state::Session;
+use tape::table::tape_table;
+use transmit::part;
+use verdicts::limits::REPLY_LEN;
+use verdicts::limits::WORK_LEN;
+use wire::codes::BUSID_LEN;
+use wire::codes::HEADER_LEN;
+use wire::codes::OP_LEN;
+
+// The bytes of a picture, and how many of a reply the socket takes at once.
+const PICTURE_LEN: usize = 64;
+
+const SOCKET_TAKES: usize = 1460;
+
+fn say(words: &[u8], number: u64) {
+    io::write_all(STDOUT_FILENO, words);
+    io::print_decimal(STDOUT_FILENO, number);
+    io::write_all(STDOUT_FILENO, b"\n");
+}
+
+fn cancel(removed: Removed) {
+    match removed {
+        Removed::Ticket(ticket) => say(b"the device cancels ticket ", ticket),
+        Removed::Nothing => (),
+    }
+}
+
+// A piece of the stream, which may be cut anywhere; here it is a whole message. OUT data would go to work, and the reply goes to
+// the front of reply.
+fn feed(s: Session, piece: &[u8], work: &mut [u8], reply: &mut [u8]) -> Session {
+    let fed = s.feed(piece, work, reply);
+    let answer = fed.answer;
+    let event = answer.event;
+    say(b"bytes to the client: ", answer.length as u64);
+    match event {
+        Event::Submit(urb) => say(b"the device starts ticket ", urb.ticket),
+        Event::Unlink(_, _, removed) => cancel(removed),
+        Event::Break(number) => say(b"the session broke with ", number as u64),
+        _ => (),
+    }
+    fed.session
+}
+
+fn feed_next(s: Session, work: &mut [u8], reply: &mut [u8]) -> Session {
+    let mut message = [0u8; HEADER_LEN];
+    io::read_full(STDIN_FILENO, &mut message);
+    feed(s, &message, work, reply)
+}
+
+// The device is done with a ticket. What goes out is a part of the header or of the picture, lent and not copied: call `part`
+// again with what was sent until it is empty.
+fn complete(s: Session, ticket: u64, picture: &[u8], header: &mut [u8]) -> Session {
+    let done = s.complete(ticket, 0, PICTURE_LEN as u32, picture, header);
+    let answer = done.answer;
+    match answer {
+        Completion::Return(length) => {
+            let first = part(header, picture, PICTURE_LEN, 0, SOCKET_TAKES);
+            say(b"bytes to the client: ", length);
+            say(b"in the first part: ", first.len() as u64)
+        }
+        Completion::Refused(number) => say(b"the completion is refused with ", number as u64),
+    }
+    done.session
+}
+
+fn main() {
+    let mut work = [0u8; WORK_LEN];
+    let mut reply = [0u8; REPLY_LEN];
+    let mut header = [0u8; HEADER_LEN];
+    let picture = [0u8; PICTURE_LEN];
+    let table = tape_table();
+    let opened = Session::open(table);
+    let waiting = opened.session;
+    let mut request = [0u8; OP_LEN + BUSID_LEN];
+    io::read_full(STDIN_FILENO, &mut request);
+    let attached = feed(waiting, &request, &mut work, &mut reply);
+    let asked = feed_next(attached, &mut work, &mut reply);
+    let cancelled = feed_next(asked, &mut work, &mut reply);
+    let again = feed_next(cancelled, &mut work, &mut reply);
+    let late = complete(again, 1, &picture, &mut header);
+    let returned = complete(late, 2, &picture, &mut header);
+    let closed = returned.close();
+    let last = closed.session;
+    let numbers = last.numbers();
+    say(b"returned: ", numbers.returned);
+    say(b"unlinked: ", numbers.unlinked);
+}
