@@ -1,12 +1,17 @@
 -- The cases of the code's answers, as the definitions have them.
 use Prim.Native.Nat.{ℕ}
+use mathlib.Core.Bool.{Bool, true, false}
 use mathlib.Core.List.{List, []}
 use mathlib.Core.Option.{none, some}
 use lib.ListN.{length, take, replicate}
 use Rattle.wire.specs.Codes
 use Rattle.pending.specs.Pending.{padded}
 use Rattle.pending.specs.declared.list.Tickets.{Tickets}
+use Rattle.verdicts.specs.Limits
+use Rattle.model.specs.Model
 use Rattle.model.specs.Model.{Event}
+use Rattle.events.specs.declared.answer.Opening.{Opening}
+use Rattle.events.specs.declared.answer.Opening.the-variants.{Ready, Refused as OpeningRefused}
 use Rattle.events.specs.declared.answer.Removed.{Removed}
 use Rattle.events.specs.declared.answer.Removed.the-variants.{Ticket, Nothing}
 use Rattle.events.specs.declared.answer.Event.{Event as Case}
@@ -15,6 +20,12 @@ use Rattle.events.specs.declared.answer.Completion.{Completion}
 use Rattle.events.specs.declared.answer.Completion.the-variants.{Return, Refused as CompletionRefused}
 use Rattle.events.specs.declared.answer.Closing.{Closing}
 use Rattle.events.specs.declared.answer.Closing.the-variants.{End, Refused as ClosingRefused}
+use Rattle.events.specs.declared.answer.Numbers.{Numbers}
+
+-- 01's number of a table that breaks a rule.
+abbrev pub openAnswer : Bool → Opening
+openAnswer true = Ready
+openAnswer false = OpeningRefused Limits.BAD-TABLE
 
 -- The event that each case stands for; the setup bytes and the dropped tickets stand beside it.
 abbrev pub removed : ℕ → ℕ → Removed → Event
@@ -66,3 +77,6 @@ droppedBeside (Event.answer q st) = ticketsOf []
 droppedBeside (Event.unlink q st t) = ticketsOf []
 droppedBeside (Event.refusal n) = ticketsOf []
 droppedBeside (Event.return n) = ticketsOf []
+
+abbrev pub numbersAs : Numbers → Model.Numbers
+numbersAs n = record { accepted = n .accepted; pending = n .pending; returned = n .returned; unlinked = n .unlinked; dropped = n .dropped }

@@ -1,6 +1,13 @@
-// What the acts of a session answer, but for what stands beside it. Numbers go inside an event, arrays beside it. What each case
-// stands for is `eventOf` and its like in specs/Answers.antt.
+// What the acts of a session answer. Numbers go inside an event, arrays beside it. What each case stands for is `eventOf` and its
+// like in specs/Answers.antt.
+use pending::list::Tickets;
 use pending::urb::Transfer;
+use wire::codes::SETUP_LEN;
+
+pub enum Opening {
+    Ready,
+    Refused(u32),
+}
 
 // The ticket that an unlink removed, if it did.
 pub enum Removed {
@@ -22,6 +29,16 @@ pub enum Event {
     Refused(u32),
 }
 
+// A feed's answer: the event, the bytes consumed of the piece, the length of the reply; an accepted submit's setup bytes; a break's
+// tickets.
+pub struct Answer {
+    pub event: Event,
+    pub consumed: usize,
+    pub length: usize,
+    pub setup: [u8; SETUP_LEN],
+    pub dropped: Tickets,
+}
+
 // A completion is accepted, with the length of the reply on the wire, or refused.
 pub enum Completion {
     Return(u64),
@@ -31,4 +48,13 @@ pub enum Completion {
 pub enum Closing {
     End,
     Refused(u32),
+}
+
+// How many URBs were accepted, are pending, were returned, unlinked and dropped.
+pub struct Numbers {
+    pub accepted: u64,
+    pub pending: u64,
+    pub returned: u64,
+    pub unlinked: u64,
+    pub dropped: u64,
 }

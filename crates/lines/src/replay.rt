@@ -1,7 +1,9 @@
 // The lines of the program `replay`.
+use events::answer::Answer;
 use events::answer::Closing;
 use events::answer::Completion;
 use events::answer::Event;
+use events::answer::Numbers;
 use numerals::text::Text;
 use numerals::text::added;
 use numerals::text::begun;
@@ -12,8 +14,6 @@ use numerals::text::with_number;
 use numerals::text::with_status;
 use pending::list::MAX_PENDING;
 use pending::list::Tickets;
-use session::answer::Answer;
-use session::answer::Numbers;
 use wire::writing::write;
 ghost use Prim.Native.Nat.{ℕ, _+_, _≤_};
 ghost use mathlib.Core.List.{List, [], _∷_, _++_};
@@ -21,8 +21,7 @@ ghost use lib.ListN.{length, take};
 ghost use Rattle.wire.specs.Fields.{joined};
 ghost use Rattle.wire.specs.Writing.{Wrote};
 ghost use Rattle.pending.specs.Pending.{MAX-PENDING};
-ghost use Rattle.events.specs.Answers.{eventOf, completionOf, closingOf};
-ghost use Rattle.session.specs.Views.{numbersAs};
+ghost use Rattle.events.specs.Answers.{eventOf, completionOf, closingOf, numbersAs};
 ghost use Rattle.numerals.specs.Digits.{decimal, statusText};
 ghost use Rattle.numerals.specs.Texts.{TEXT-LEN, WORD-LEN, LINE-LEN, DROPPED-LEN, lineOf, line, textOf, Holds};
 ghost use Rattle.lines.specs.Lines.{linesOf, completionLines, endLine, badTapeLine};

@@ -1,10 +1,10 @@
 // The lines of one act: those of `replay`, and behind them those that `trace` adds.
+use events::answer::Answer;
 use events::answer::Completion;
 use events::answer::Event;
 use lines::replay::complete_line;
 use lines::replay::feed_lines;
 use pending::urb::Transfer;
-use session::answer::Answer;
 use traces::trace_data;
 use traces::trace_feed;
 use traces::trace_header;

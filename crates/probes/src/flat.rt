@@ -1,10 +1,10 @@
 // Answers as numbers: a C function may not hand back an enum.
 use events::answer::Completion;
 use events::answer::Event;
+use events::answer::Numbers;
 use events::answer::Removed;
 use pending::list::Tickets;
 use pending::urb::Transfer;
-use session::answer::Numbers;
 use wire::codes::SETUP_LEN;
 
 // The kinds of an event.

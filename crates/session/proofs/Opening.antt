@@ -8,7 +8,8 @@ use Rattle.verdicts.specs.Tests.{pick}
 use Rattle.model.specs.Model
 use Rattle.model.specs.Model.{openOf}
 use Rattle.events.specs.Links.{phaseOf}
-use Rattle.session.specs.Views.{viewOf, fresh, openAnswer}
+use Rattle.events.specs.Answers.{openAnswer}
+use Rattle.session.specs.Views.{viewOf, fresh}
 
 module _ (t : Table) where
   pub open-good : (b : Bool) → b ≡ goodTable t → b ≡ true → (openAnswer true ≡ openAnswer (openOf t .good)) × (viewOf (fresh t Limits.WAITING) ≡ openOf t .next)

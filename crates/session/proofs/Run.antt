@@ -10,7 +10,8 @@ use Rattle.model.specs.Corollaries.{sessionAfter, bookAfter}
 use Rattle.model.proofs.Runs.{every-run}
 use Rattle.events.specs.Plans.{Said}
 use Rattle.feeding.specs.Feeding.{fedOf}
-use Rattle.session.specs.Views.{viewOf, openAnswer}
+use Rattle.events.specs.Answers.{openAnswer}
+use Rattle.session.specs.Views.{viewOf}
 use Rattle.session.specs.Run.{Act, feeding, completing, closing, callOf, answerOf, nextOf, Meets, Run, lastOf, kept, isReady, CodeRun}
 use Rattle.session.specs.declared.state.Session.{Session}
 

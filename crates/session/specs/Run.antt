@@ -9,12 +9,12 @@ use Rattle.model.specs.Model.{Buffers, openOf, completeOf, closeOf}
 use Rattle.model.specs.Book.{Call, feed, complete, close, Answer, Book, opened, keep}
 use Rattle.model.specs.Claims.{Holds}
 use Rattle.model.specs.Corollaries.{sessionFrom, bookFrom}
-use Rattle.events.specs.Answers.{eventOf, completionOf, closingOf}
+use Rattle.events.specs.Answers.{openAnswer, eventOf, completionOf, closingOf}
 use Rattle.feeding.specs.Feeding.{fedOf}
-use Rattle.session.specs.Views.{viewOf, fedAs, openAnswer, completedAs, closedAs}
+use Rattle.session.specs.Views.{viewOf, fedAs, completedAs, closedAs}
 use Rattle.session.specs.declared.state.Session.{Session}
-use Rattle.session.specs.declared.answer.Opening.{Opening}
-use Rattle.session.specs.declared.answer.Opening.the-variants.{Ready, Refused}
+use Rattle.events.specs.declared.answer.Opening.{Opening}
+use Rattle.events.specs.declared.answer.Opening.the-variants.{Ready, Refused}
 use Rattle.session.specs.declared.answer.Opened.{Opened}
 use Rattle.session.specs.declared.answer.Fed.{Fed}
 use Rattle.session.specs.declared.answer.Completed.{Completed}

@@ -1,10 +1,8 @@
 -- The code's session and what its acts hand back, as the definitions have them.
 use Prim.Native.Nat.{ℕ}
-use mathlib.Core.Bool.{Bool, true, false}
 use mathlib.Core.List.{List}
 use Rattle.exports.specs.declared.device.Table.{Table}
 use Rattle.pending.specs.Pending.{emptyPending}
-use Rattle.verdicts.specs.Limits
 use Rattle.model.specs.Model
 use Rattle.model.specs.Model.{Sess}
 use Rattle.model.specs.Cut.{lent}
@@ -13,12 +11,9 @@ use Rattle.events.specs.Answers.{eventOf, completionOf, closingOf}
 use Rattle.events.specs.Plans.{Said}
 use Rattle.settling.specs.Ends.{freshLink}
 use Rattle.session.specs.declared.state.Session.{Session}
-use Rattle.session.specs.declared.answer.Opening.{Opening}
-use Rattle.session.specs.declared.answer.Opening.the-variants.{Ready, Refused}
 use Rattle.session.specs.declared.answer.Fed.{Fed}
 use Rattle.session.specs.declared.answer.Completed.{Completed}
 use Rattle.session.specs.declared.answer.Closed.{Closed}
-use Rattle.session.specs.declared.answer.Numbers.{Numbers}
 
 -- Its three parts, as `events` reads them: where they don't fit together, as no act leaves it, it is taken for closed.
 abbrev pub viewOf : Session → Sess
@@ -27,11 +22,6 @@ viewOf s = Links.viewOf (Links.whole (s .table) (s .link) (s .pending))
 -- Nothing was said to it yet.
 abbrev pub fresh : Table → ℕ → Session
 fresh t phase = record { table = t; link = freshLink phase; pending = emptyPending }
-
--- 01's number of a table that breaks a rule.
-abbrev pub openAnswer : Bool → Opening
-openAnswer true = Ready
-openAnswer false = Refused Limits.BAD-TABLE
 
 -- All that a feed says and leaves, by the code, with both buffers at exit.
 abbrev pub fedAs : Fed → List ℕ → List ℕ → Said
@@ -53,6 +43,3 @@ completedAs r header = record { event = completionOf (r .answer); header = heade
 
 abbrev pub closedAs : Closed → Model.Close
 closedAs r = record { event = closingOf (r .answer) (r .dropped); next = viewOf (r .session) }
-
-abbrev pub numbersAs : Numbers → Model.Numbers
-numbersAs n = record { accepted = n .accepted; pending = n .pending; returned = n .returned; unlinked = n .unlinked; dropped = n .dropped }

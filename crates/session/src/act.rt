@@ -1,18 +1,18 @@
 // The acts of a session: open, feed, complete, close; and its numbers. Each act takes the session and hands back the next: what it
 // will do is planned first, and then carried out.
-use crate::answer::Answer;
 use crate::answer::Closed;
 use crate::answer::Completed;
 use crate::answer::Fed;
-use crate::answer::Numbers;
 use crate::answer::Opened;
-use crate::answer::Opening;
 use crate::carry::changed_list;
 use crate::carry::copy_data;
 use crate::carry::dropped_tickets;
 use crate::carry::write_header;
 use crate::carry::write_reply;
 use crate::state::Session;
+use events::answer::Answer;
+use events::answer::Numbers;
+use events::answer::Opening;
 use events::plan::Plan;
 use exports::device::Table;
 use feeding::feed::plan_message;
@@ -29,10 +29,10 @@ use wire::codes::SETUP_LEN;
 ghost use mathlib.Core.Path.{_≡_};
 ghost use Rattle.model.specs.Model.{numbersOf, openOf, completeOf, closeOf};
 ghost use Rattle.model.specs.Cut.{lent};
-ghost use Rattle.events.specs.Answers.{droppedBeside};
+ghost use Rattle.events.specs.Answers.{droppedBeside, openAnswer, numbersAs};
 ghost use Rattle.feeding.specs.Feeding.{Plans, fedOf};
 ghost use Rattle.settling.specs.Completing.{handed};
-ghost use Rattle.session.specs.Views.{viewOf, fresh, fedAs, numbersAs, openAnswer, completedAs, closedAs};
+ghost use Rattle.session.specs.Views.{viewOf, fresh, fedAs, completedAs, closedAs};
 
 // A session that nothing was said to yet.
 fn fresh_session(table: Table, phase: u8) -> Session
