@@ -8,7 +8,7 @@ use Rattle.verdicts.specs.Limits
 use Rattle.model.specs.Model
 use Rattle.model.specs.Model.{Sess}
 use Rattle.model.specs.Cut.{lent}
-use Rattle.events.specs.Links
+use Rattle.links.specs.Links
 use Rattle.events.specs.Answers.{eventOf, completionOf, closingOf}
 use Rattle.events.specs.Plans.{Said}
 use Rattle.settling.specs.Ends.{freshLink}
