@@ -1,3 +1,2 @@
 -- Why the code is what the definitions say.
-pub mod Fits
 pub mod Saying

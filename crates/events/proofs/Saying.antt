@@ -2,11 +2,11 @@
 use Prim.Native.Nat.{ℕ, suc, _+_, _*_, _≤_, _<_}
 use native.Mathlib.Omega.{arith}
 use mathlib.Core.Path.{_≡_, refl, sym, ap, subst, _∙_}
-use mathlib.Core.Bool.{Bool, true, false, cond, _&&_, true≢false}
+use mathlib.Core.Bool.{Bool, true, false}
 use mathlib.Core.List.{List}
-use lib.Dec.{eqb, ltb}
+use lib.Dec.{ltb}
 use lib.Seq.{take-all}
-use lib.ListN.{length, take, getD, replicate, length-map, length-take}
+use lib.ListN.{length, take, getD, replicate, length-map}
 use borrow.Author.Tests.{ltb-true, ltb-false}
 use mathlib.Core.Logic.{inl, inr}
 use Rattle.wire.specs.Codes
@@ -20,7 +20,7 @@ use Rattle.lookup.specs.Lookup.{findIn}
 use Rattle.lookup.specs.declared.Found.{Found}
 use Rattle.lookup.specs.declared.Found.the-variants.{At as FoundAt}
 use Rattle.pending.specs.Pending.{MAX-PENDING, ticketOf, seqnumOf, tickets, listOf, findBy, placeBy, urbAt, emptyPending, listing, appended, withoutFirst}
-use Rattle.pending.proofs.Finding.{place-at, place-find, place-none, find-some}
+use Rattle.pending.proofs.Finding.{place-at, place-none, find-some}
 use Rattle.pending.specs.declared.list.Place.{Place}
 use Rattle.pending.specs.declared.list.Place.the-variants.{At, Nothing}
 use Rattle.model.proofs.Facts.{mem-found, clash}
@@ -36,57 +36,21 @@ use Rattle.verdicts.proofs.Match.{clear}
 use Rattle.verdicts.proofs.Tables.{submit-match}
 use Rattle.model.specs.Model.{Sess, Event, tell, after, replyTo, between, act, drop-all, lookedUp, urbFrom, urbOf, submitted, unlinks}
 use Rattle.model.specs.Cut.{lent}
-use Rattle.events.specs.Links.{Parts, countsFit, progressFits, phaseOf, during, bareOf, inPhase, viewOf, whole, resting, headed, Attached, Live}
+use Rattle.links.specs.Links.{Parts, countsFit, during, viewOf, whole, resting, headed, Attached}
 use Rattle.events.specs.Answers.{eventOf, setupBeside, droppedBeside, ticketsOf}
 use Rattle.events.specs.Plans.{droppedBy, changed, replyBytes, dataOf, plain, Placed, Says, told}
-use Rattle.events.proofs.Fits.{counts-known, even-counts}
+use Rattle.links.proofs.Fits.{counts-known, even-counts}
+use Rattle.links.proofs.Views.{view-shut, view-attached}
 use mathlib.Core.Option.{Option, none, some}
 use native.Mathlib.Nat.{add-zero}
 use native.Mathlib.Numerals.{add-one}
-use Rattle.events.specs.declared.state.Counts.{Counts}
-use Rattle.events.specs.declared.state.Progress.{Progress}
+use Rattle.links.specs.declared.Progress.{Progress}
 use Rattle.events.specs.declared.answer.Event.{Event as Case}
-use Rattle.events.specs.declared.state.Link.{Link}
+use Rattle.links.specs.declared.Link.{Link}
 use Rattle.events.specs.declared.plan.Change.{Change}
 use Rattle.events.specs.declared.plan.Reply.{Reply}
 use Rattle.events.specs.declared.plan.Plan.{Plan}
 use lib.Seq.{sets}
-
--- ## The next session
-
--- the view of a session whose parts fit together, and of one that is closed
-pub view-fit : (s : Parts) → countsFit (s .link .counts) (s .pending .count) ≡ true → progressFits (s .link .phase) (s .link .progress) ≡ true → viewOf s ≡ bareOf s
-unfolding phaseOf
-view-fit s c p = rw (c, p)
-
--- a session that isn't closed
-module _ (s : Parts) where
-  pub live : eqb (phaseOf (s .link) (s .pending .count)) Limits.CLOSED ≡ false → Live s
-  unfolding phaseOf
-  live h = at (countsFit (s .link .counts) (s .pending .count)) (progressFits (s .link .phase) (s .link .progress)) h
-    where
-      at : (a b : Bool) → eqb (cond (a && b) (s .link .phase) Limits.CLOSED) Limits.CLOSED ≡ false → (a ≡ true) × (b ≡ true)
-      at true true h = (refl, refl)
-      at true false h = absurd (true≢false h)
-      at false b h = absurd (true≢false h)
-
-  pub live-view : Live s → viewOf s ≡ bareOf s
-  live-view l = view-fit s (l .0) (l .1)
-
-pub view-closed : (s : Parts) → s .link .phase ≡ Limits.CLOSED → viewOf s ≡ bareOf s
-unfolding phaseOf
-view-closed s e = rw e (at (countsFit (s .link .counts) (s .pending .count) && progressFits Limits.CLOSED (s .link .progress)))
-  where
-    at : (c : Bool) → inPhase (cond c Limits.CLOSED Limits.CLOSED) (bareOf s) ≡ inPhase Limits.CLOSED (bareOf s)
-    at true = refl
-    at false = refl
-
--- with no message in progress
-pub view-shut : (t : Table) (devid : ℕ) (c : Counts) (p : Pending) → viewOf (whole t (resting Limits.CLOSED devid c) p) ≡ bareOf (whole t (resting Limits.CLOSED devid c) p)
-view-shut t devid c p = view-closed (whole t (resting Limits.CLOSED devid c) p) refl
-
-pub view-attached : (t : Table) (devid : ℕ) (c : Counts) (p : Pending) → countsFit c (p .count) ≡ true → viewOf (whole t (resting Limits.ATTACHED devid c) p) ≡ bareOf (whole t (resting Limits.ATTACHED devid c) p)
-view-attached t devid c p h = view-fit (whole t (resting Limits.ATTACHED devid c) p) h refl
 
 -- ## The plan
 
@@ -245,9 +209,6 @@ found-place list k i urb at p q f = by-place (placeBy ticketOf (ticketOf urb) (l
 pub listed-tickets : (us : List Urb) → listing us ≡ ticketsOf (tickets us)
 listed-tickets us = rw (length-map us ticketOf)
 
-pub few : (s : Parts) → Attached s → s .pending .count ≤ MAX-PENDING
-few s h = counts-known (s .link .counts) (s .pending .count) (h .0) .0
-
 pub tests-for : (u : Submit) (devid n m accepted : ℕ) {o : Option ℕ} → n ≡ m → first (submitTests u devid n accepted) ≡ o → first (submitTests u devid m accepted) ≡ o
 tests-for u devid n m accepted e f = ap (λ (k : ℕ). first (submitTests u devid k accepted)) (sym e) ∙ f
 
@@ -256,11 +217,3 @@ same-place h = cc
 
 pub no-place : {A : Type 0} {i : ℕ} → At i ≡ Nothing → A
 no-place {i = i} h = absurd (let z : _≡_ {A = ℕ} 0 1 = cc in omega arith)
-
--- what is pending isn't ended yet
-pub one-pending : (c : Counts) (list : Pending) (t i : ℕ) → countsFit c (list .count) ≡ true → placeBy ticketOf t (listOf list) ≡ At i → (c .returned < c .accepted) × (c .unlinked < c .accepted)
-one-pending c list t i h e =
-    let n = counts-known c (list .count) h in
-    let k = place-find ticketOf t (listOf list) i e .1 in
-    let m = length-take (list .count) (list .urbs) in
-    (omega (arith, n .1, k, m), omega (arith, n .1, k, m))

@@ -1,4 +1,3 @@
--- What a reader of this crate must believe: how the code's link, answers and plans stand for those of the definitions.
-pub mod Links
+-- What a reader of this crate must believe: how the code's answers and plans stand for those of the definitions.
 pub mod Answers
 pub mod Plans

@@ -16,10 +16,10 @@ use Rattle.pending.specs.declared.list.Pending.{Pending}
 use Rattle.pending.specs.declared.list.Tickets.{Tickets}
 use Rattle.model.specs.Model.{Sess, Event, Buffers, tell, after, replyTo}
 use Rattle.model.specs.Cut.{lent}
-use Rattle.events.specs.Links.{whole, viewOf}
+use Rattle.links.specs.Links.{whole, viewOf}
 use Rattle.events.specs.Answers.{eventOf, setupBeside, ticketsOf, droppedBeside}
 use Rattle.events.specs.declared.answer.Event.{Event as Case}
-use Rattle.events.specs.declared.state.Link.{Link}
+use Rattle.links.specs.declared.Link.{Link}
 use Rattle.events.specs.declared.plan.Change.{Change}
 use Rattle.events.specs.declared.plan.Change.the-variants.{Keep, Append, Remove, Clear}
 use Rattle.events.specs.declared.plan.Reply.{Reply}

@@ -5,12 +5,12 @@ use crate::plan::Change;
 use crate::plan::Plan;
 use crate::plan::Reply;
 use crate::plan::plain_plan;
-use crate::state::Counts;
-use crate::state::Link;
-use crate::state::Progress;
 use exports::device::Device;
 use exports::device::MAX_DEVICES;
 use exports::device::Table;
+use links::Counts;
+use links::Link;
+use links::Progress;
 use lookup::Found;
 use lookup::find;
 use messages::message::Submit;
@@ -48,9 +48,9 @@ ghost use Rattle.pending.specs.declared.list.Place.the-variants.{At as Placed};
 ghost use Rattle.verdicts.specs.Limits;
 ghost use Rattle.model.specs.Model;
 ghost use Rattle.model.specs.Model.{breaks, lookedUp, imports, urbFrom, submitted, unlinks};
-ghost use Rattle.events.specs.Links.{countsFit, progressFits, during, viewOf, noProgress, headed, whole, resting, Attached};
+ghost use Rattle.links.specs.Links.{countsFit, progressFits, during, viewOf, noProgress, headed, whole, resting, Attached};
 ghost use Rattle.events.specs.Plans.{Says};
-ghost use Rattle.events.specs.declared.state.Progress.{Progress};
+ghost use Rattle.links.specs.declared.Progress.{Progress};
 
 fn no_progress() -> Progress
     ensures { λ r. ⌜ r ≡ noProgress ⌝ }

@@ -1,6 +1,6 @@
 // A plan: what a feed will do, decided by value before anything is written.
 use crate::answer::Event;
-use crate::state::Link;
+use links::Link;
 use messages::reply::RetSubmit;
 use messages::reply::RetUnlink;
 use pending::urb::Transfer;

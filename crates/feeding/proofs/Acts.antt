@@ -17,13 +17,13 @@ use Rattle.verdicts.specs.Verdicts
 use Rattle.verdicts.proofs.Good.{feed-clear}
 use Rattle.model.specs.Model.{Sess, Event, Buffers, feedTests, feedOf, feedBytes, tell, replyTo}
 use Rattle.model.specs.Cut.{lent}
-use Rattle.events.specs.Links.{Parts, countsFit, progressFits, phaseOf, bareOf, viewOf, whole, Live}
+use Rattle.links.specs.Links.{Parts, countsFit, progressFits, phaseOf, bareOf, viewOf, whole, Live}
 use Rattle.events.specs.Plans.{Said, told, replyBytes, Says}
 use Rattle.feeding.specs.Feeding.{saying, fedOf, fedFrom, Feeds, Plans}
-use Rattle.events.specs.declared.state.Link.{Link}
+use Rattle.links.specs.declared.Link.{Link}
 use Rattle.events.specs.declared.plan.Plan.{Plan}
-use Rattle.events.proofs.Fits.{attached-known}
-use Rattle.events.proofs.Saying.{live-view}
+use Rattle.links.proofs.Fits.{attached-known}
+use Rattle.links.proofs.Views.{live-view}
 
 module _ (s : Sess) (b : Buffers) (piece : List ℕ) where
   pub feed-refused : (n : ℕ) → first (feedTests s b) ≡ some n → fedOf s b piece ≡ told s b 0 (Event.refusal n)

@@ -4,8 +4,8 @@ use native.Mathlib.Omega.{arith}
 use mathlib.Core.Path.{_≡_, refl, sym, ap, subst, _∙_}
 use mathlib.Core.Bool.{Bool, true, false, cond}
 use mathlib.Core.List.{List, _++_}
-use lib.ListN.{length, take, drop, length-append, length-drop, take-append-drop}
-use lib.Seq.{sets, take-all, take-at, drop-drop, length-take-le}
+use lib.ListN.{length, take, drop, length-drop, take-append-drop}
+use lib.Seq.{sets, take-all, drop-drop, length-take-le}
 use borrow.Author.Tests.{lt-ltb, le-leb, ltb-true, ltb-false}
 use lib.Dec.{eqb, ltb}
 use Rattle.wire.specs.Codes
@@ -22,10 +22,10 @@ use Rattle.messages.specs.declared.request.Request.{Request}
 use Rattle.verdicts.specs.Limits
 use Rattle.model.specs.Model
 use Rattle.model.specs.Model.{Sess, Event, Buffers, isHungry, judge, bodyOf, imports, lookedUp, requested, breaks, unlinks, submitted, messageTests}
-use Rattle.events.specs.Links.{Parts, during, progressFits, headed}
+use Rattle.links.specs.Links.{Parts, during, progressFits, headed}
 use Rattle.events.specs.Plans.{told, Said, Says, carried, dataOf}
 use Rattle.feeding.specs.Feeding.{fedFrom, Filled, Feeds}
-use Rattle.events.specs.declared.state.Progress.{Progress}
+use Rattle.links.specs.declared.Progress.{Progress}
 use Rattle.events.specs.declared.plan.Plan.{Plan}
 use Rattle.exports.specs.declared.device.Table.{Table}
 use Rattle.pending.specs.declared.list.Pending.{Pending}

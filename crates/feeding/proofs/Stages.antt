@@ -11,11 +11,11 @@ use Rattle.wire.specs.Codes
 use Rattle.model.specs.Model
 use Rattle.model.specs.Model.{Sess, Event, Buffers, isHungry, grow, put, judge, after, tell, replyTo, feedBytes}
 use Rattle.model.specs.Cut.{stepAll, putAll, replied}
-use Rattle.events.specs.Links.{Parts, during}
+use Rattle.links.specs.Links.{Parts, during}
 use Rattle.events.specs.Answers.{setupBeside, droppedBeside}
 use Rattle.events.specs.Plans.{told}
 use Rattle.feeding.specs.Feeding.{saying, fedFrom, Filled}
-use Rattle.events.specs.declared.state.Progress.{Progress}
+use Rattle.links.specs.declared.Progress.{Progress}
 use Rattle.model.proofs.Cutting
 use Rattle.model.proofs.Growth.{holding, grow-all, put-all}
 

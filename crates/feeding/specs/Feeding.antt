@@ -10,11 +10,11 @@ use Rattle.verdicts.specs.Limits
 use Rattle.model.specs.Machine.{Fed}
 use Rattle.model.specs.Model.{Sess, Event, Buffers, bodyOf, feedBytes, feedOf}
 use Rattle.model.specs.Cut.{replied}
-use Rattle.events.specs.Links.{whole, viewOf}
+use Rattle.links.specs.Links.{whole, viewOf}
 use Rattle.events.specs.Answers.{setupBeside, droppedBeside}
 use Rattle.events.specs.Plans.{Said, replyBytes, carried, Placed}
-use Rattle.events.specs.declared.state.Link.{Link}
-use Rattle.events.specs.declared.state.Progress.{Progress}
+use Rattle.links.specs.declared.Link.{Link}
+use Rattle.links.specs.declared.Progress.{Progress}
 use Rattle.events.specs.declared.plan.Plan.{Plan}
 
 -- All that a feed says and leaves, by the definitions.

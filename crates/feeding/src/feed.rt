@@ -5,9 +5,9 @@ use crate::stream::feed_import;
 use crate::stream::feed_request;
 use events::event::refused;
 use events::plan::Plan;
-use events::state::Link;
-use events::state::phase_of;
 use exports::device::Table;
+use links::Link;
+use links::phase_of;
 use pending::list::Pending;
 use verdicts::limits::ATTACHED;
 use verdicts::limits::WAITING;
@@ -21,7 +21,7 @@ ghost use Rattle.exports.specs.declared.device.Table.{Table};
 ghost use Rattle.pending.specs.Pending.{Whole};
 ghost use Rattle.pending.specs.declared.list.Pending.{Pending};
 ghost use Rattle.verdicts.specs.Limits;
-ghost use Rattle.events.specs.Links.{countsFit, progressFits, during, whole};
+ghost use Rattle.links.specs.Links.{countsFit, progressFits, during, whole};
 ghost use Rattle.feeding.specs.Feeding.{Feeds, Plans};
 
 // The plan for the bytes of a session that waits.

@@ -6,10 +6,10 @@ use events::event::listed;
 use events::event::submitted;
 use events::event::unlinked;
 use events::plan::Plan;
-use events::state::Link;
-use events::state::Progress;
-use events::state::body_len;
 use exports::device::Table;
+use links::Link;
+use links::Progress;
+use links::body_len;
 use messages::message::read_command;
 use messages::message::read_submit;
 use messages::request::read_request;
@@ -36,7 +36,7 @@ ghost use Rattle.verdicts.specs.Limits;
 ghost use Rattle.verdicts.specs.Tests.{first};
 ghost use Rattle.verdicts.specs.Verdicts.{verdictOf};
 ghost use Rattle.model.specs.Model.{messageTests};
-ghost use Rattle.events.specs.Links.{countsFit, during, whole, Attached};
+ghost use Rattle.links.specs.Links.{countsFit, during, whole, Attached};
 ghost use Rattle.feeding.specs.Feeding.{Begun, Filled, Feeds};
 
 // More bytes of the header of the message in progress.

@@ -7,7 +7,7 @@ use Rattle.verdicts.specs.Limits
 use Rattle.verdicts.specs.Tests.{pick}
 use Rattle.model.specs.Model
 use Rattle.model.specs.Model.{openOf}
-use Rattle.events.specs.Links.{phaseOf}
+use Rattle.links.specs.Links.{phaseOf}
 use Rattle.events.specs.Answers.{openAnswer}
 use Rattle.session.specs.Views.{viewOf, fresh}
 

@@ -6,7 +6,7 @@ use Rattle.pending.specs.Pending.{emptyPending}
 use Rattle.model.specs.Model
 use Rattle.model.specs.Model.{Sess}
 use Rattle.model.specs.Cut.{lent}
-use Rattle.events.specs.Links
+use Rattle.links.specs.Links
 use Rattle.events.specs.Answers.{eventOf, completionOf, closingOf}
 use Rattle.events.specs.Plans.{Said}
 use Rattle.settling.specs.Ends.{freshLink}
@@ -15,7 +15,7 @@ use Rattle.session.specs.declared.answer.Fed.{Fed}
 use Rattle.session.specs.declared.answer.Completed.{Completed}
 use Rattle.session.specs.declared.answer.Closed.{Closed}
 
--- Its three parts, as `events` reads them: where they don't fit together, as no act leaves it, it is taken for closed.
+-- Its three parts, as `links` reads them: where they don't fit together, as no act leaves it, it is taken for closed.
 abbrev pub viewOf : Session → Sess
 viewOf s = Links.viewOf (Links.whole (s .table) (s .link) (s .pending))
 

@@ -24,12 +24,12 @@ use Rattle.verdicts.specs.Tests.{first, decide, pick}
 use Rattle.verdicts.specs.Verdicts
 use Rattle.model.specs.Model
 use Rattle.model.specs.Model.{Sess, Event, completeTests, theUrb, completeOf, closeOf}
-use Rattle.events.specs.Links.{Parts, phaseOf, bareOf, viewOf, whole, Live}
+use Rattle.links.specs.Links.{Parts, phaseOf, bareOf, viewOf, whole, Live}
 use Rattle.settling.specs.Completing.{asked, handed}
-use Rattle.events.specs.declared.state.Counts.{Counts}
-use Rattle.events.specs.declared.state.Link.{Link}
-use Rattle.events.proofs.Fits.{counts-known, even-counts}
-use Rattle.events.proofs.Saying.{view-fit, live}
+use Rattle.links.specs.declared.Counts.{Counts}
+use Rattle.links.specs.declared.Link.{Link}
+use Rattle.links.proofs.Fits.{counts-known, even-counts}
+use Rattle.links.proofs.Views.{view-fit, live}
 
 -- ## Completing
 

@@ -15,10 +15,10 @@ use Rattle.pending.specs.declared.urb.Transfer.{Transfer}
 use Rattle.verdicts.specs.Limits
 use Rattle.verdicts.specs.declared.verdict.Completing.{Completing}
 use Rattle.model.specs.Model
-use Rattle.events.specs.Links.{whole, viewOf}
+use Rattle.links.specs.Links.{whole, viewOf}
 use Rattle.events.specs.Answers.{completionOf}
 use Rattle.events.specs.Plans.{changed}
-use Rattle.events.specs.declared.state.Link.{Link}
+use Rattle.links.specs.declared.Link.{Link}
 use Rattle.settling.specs.declared.completion.Done.{Done}
 
 abbrev pub handed : (ticket status actual : ℕ) → (frame header : List ℕ) → Model.Completion

@@ -7,10 +7,10 @@ use Rattle.exports.specs.declared.device.Table.{Table}
 use Rattle.pending.specs.Pending.{Whole}
 use Rattle.pending.specs.declared.list.Pending.{Pending}
 use Rattle.model.specs.Model.{Close, closeOf}
-use Rattle.events.specs.Links.{whole, viewOf, resting}
+use Rattle.links.specs.Links.{whole, viewOf, resting}
 use Rattle.events.specs.Answers.{closingOf, droppedBeside}
 use Rattle.events.specs.Plans.{changed, droppedBy}
-use Rattle.events.specs.declared.state.Link.{Link}
+use Rattle.links.specs.declared.Link.{Link}
 use Rattle.settling.specs.declared.ends.Ending.{Ending}
 
 -- The link of a session that nothing was said to yet.

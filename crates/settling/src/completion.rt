@@ -1,9 +1,9 @@
 // The plan of a completion.
 use events::answer::Completion;
 use events::plan::Change;
-use events::state::Counts;
-use events::state::Link;
-use events::state::phase_of;
+use links::Counts;
+use links::Link;
+use links::phase_of;
 use messages::reply::RetSubmit;
 use pending::list::MAX_PENDING;
 use pending::list::Pending;

@@ -8,8 +8,8 @@ use Rattle.pending.specs.Pending.{appended}
 use native.Mathlib.Numerals.{add-one}
 use Prim.Native.Nat.{ℕ, suc}
 use mathlib.Core.Path.{subst}
-use Rattle.events.specs.declared.state.Link.{Link}
-use Rattle.events.specs.Links.{during, viewOf, whole}
+use Rattle.links.specs.declared.Link.{Link}
+use Rattle.links.specs.Links.{during, viewOf, whole}
 use Rattle.events.specs.Plans.{changed}
 use Rattle.model.specs.Model
 use mathlib.Core.Path.{_≡_, refl, ap, sym, _∙_}

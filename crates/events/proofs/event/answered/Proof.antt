@@ -2,8 +2,8 @@ use Rattle.events.proofs.Saying.{plainly, answer-bytes, rests}
 use Rattle.events.specs.declared.plan.Reply.the-variants.{Returned}
 use Rattle.events.specs.declared.plan.Change.the-variants.{Keep}
 use Rattle.events.specs.declared.answer.Event.the-variants.{Answer}
-use Rattle.events.specs.declared.state.Link.{Link}
-use Rattle.events.specs.Links.{during, viewOf, whole}
+use Rattle.links.specs.declared.Link.{Link}
+use Rattle.links.specs.Links.{during, viewOf, whole}
 use Rattle.model.specs.Model
 use mathlib.Core.Path.{refl, ap, sym, _∙_}
 use borrow.Author.Needs.{needs}

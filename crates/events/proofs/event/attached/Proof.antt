@@ -2,8 +2,8 @@ use Rattle.events.proofs.Saying.{plainly, attaches}
 use Rattle.events.specs.declared.plan.Reply.the-variants.{Device}
 use Rattle.events.specs.declared.plan.Change.the-variants.{Keep}
 use Rattle.events.specs.declared.answer.Event.the-variants.{Import}
-use Rattle.events.specs.declared.state.Link.{Link}
-use Rattle.events.specs.Links.{during, viewOf, whole}
+use Rattle.links.specs.declared.Link.{Link}
+use Rattle.links.specs.Links.{during, viewOf, whole}
 use Rattle.model.specs.Model
 use mathlib.Core.Path.{refl, ap, _∙_}
 use borrow.Author.Needs.{needs}

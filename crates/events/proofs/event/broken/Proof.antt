@@ -1,6 +1,6 @@
 use Rattle.events.proofs.Saying.{plainly, drops-all, listed-tickets}
-use Rattle.events.proofs.Fits.{counts-known}
-use Rattle.events.specs.Links.{resting}
+use Rattle.links.proofs.Fits.{counts-known}
+use Rattle.links.specs.Links.{resting}
 use Rattle.pending.proofs.Laws.{tickets-view}
 use Rattle.pending.specs.Pending.{listOf}
 use Rattle.verdicts.specs.Limits.{CLOSED}
@@ -8,7 +8,7 @@ use Prim.Native.Nat.{ℕ, _+_}
 use Rattle.events.specs.declared.plan.Reply.the-variants.{Silent}
 use Rattle.events.specs.declared.plan.Change.the-variants.{Clear}
 use Rattle.events.specs.declared.answer.Event.the-variants.{Break}
-use Rattle.events.specs.Links.{during, whole}
+use Rattle.links.specs.Links.{during, whole}
 use Rattle.model.specs.Model
 use native.Mathlib.Omega.{arith}
 use mathlib.Core.Path.{refl, ap, sym, _∙_}

@@ -1,7 +1,7 @@
-use Rattle.events.proofs.Fits.{counts-known}
+use Rattle.links.proofs.Fits.{counts-known}
 use mir.Syntax.{w64}
 use mir.Val.{Fits}
-use Rattle.events.specs.Links.{resting}
+use Rattle.links.specs.Links.{resting}
 use Rattle.verdicts.specs.Limits.{CLOSED}
 use Prim.Native.Nat.{ℕ}
 use native.Mathlib.Omega.{arith}

@@ -1,8 +1,9 @@
-use Rattle.events.proofs.Saying.{plainly, view-fit}
+use Rattle.events.proofs.Saying.{plainly}
+use Rattle.links.proofs.Views.{view-fit}
 use Rattle.events.specs.declared.plan.Reply.the-variants.{Silent}
 use Rattle.events.specs.declared.plan.Change.the-variants.{Keep}
 use Rattle.events.specs.declared.answer.Event.the-variants.{Hungry}
-use Rattle.events.specs.Links.{during, whole}
+use Rattle.links.specs.Links.{during, whole}
 use Rattle.model.specs.Model
 use mathlib.Core.Path.{refl}
 use borrow.Author.Needs.{needs}

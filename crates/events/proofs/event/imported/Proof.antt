@@ -1,5 +1,5 @@
 use Rattle.events.proofs.Saying.{looks-up}
-use Rattle.events.specs.Links.{whole}
+use Rattle.links.specs.Links.{whole}
 use Rattle.lookup.proofs.First.{find-first}
 use mathlib.Core.Path.{sym, _∙_}
 use borrow.Author.Needs.{needs}

@@ -4,8 +4,8 @@ use mathlib.Core.Option.{none}
 use Rattle.events.specs.declared.plan.Reply.the-variants.{Cancelled}
 use Rattle.events.specs.declared.plan.Change.the-variants.{Keep}
 use Rattle.events.specs.declared.answer.Event.the-variants.{Unlink}
-use Rattle.events.specs.declared.state.Link.{Link}
-use Rattle.events.specs.Links.{during, viewOf, whole}
+use Rattle.links.specs.declared.Link.{Link}
+use Rattle.links.specs.Links.{during, viewOf, whole}
 use Rattle.model.specs.Model
 use mathlib.Core.Path.{refl, ap, _∙_}
 use borrow.Author.Needs.{needs}

@@ -2,7 +2,7 @@ use Rattle.events.proofs.Saying.{plainly}
 use Rattle.events.specs.declared.plan.Reply.the-variants.{Silent}
 use Rattle.events.specs.declared.plan.Change.the-variants.{Keep}
 use Rattle.events.specs.declared.answer.Event.the-variants.{Refused}
-use Rattle.events.specs.Links.{viewOf, whole}
+use Rattle.links.specs.Links.{viewOf, whole}
 use Rattle.model.specs.Model
 use mathlib.Core.Path.{refl}
 use borrow.Author.Needs.{needs}

@@ -1,4 +1,5 @@
-use Rattle.events.proofs.Saying.{plainly, unlinks-one, one-pending}
+use Rattle.events.proofs.Saying.{plainly, unlinks-one}
+use Rattle.links.proofs.Fits.{one-pending}
 use Rattle.events.specs.declared.answer.Removed.the-variants.{Ticket}
 use Rattle.pending.proofs.Without.{remove-first}
 use Rattle.pending.proofs.Laws.{remove-view, remove-count}
@@ -14,8 +15,8 @@ use mathlib.Core.Option.{some}
 use Rattle.events.specs.declared.plan.Reply.the-variants.{Cancelled}
 use Rattle.events.specs.declared.plan.Change.the-variants.{Remove}
 use Rattle.events.specs.declared.answer.Event.the-variants.{Unlink}
-use Rattle.events.specs.declared.state.Link.{Link}
-use Rattle.events.specs.Links.{resting, during, viewOf, whole}
+use Rattle.links.specs.declared.Link.{Link}
+use Rattle.links.specs.Links.{resting, during, viewOf, whole}
 use Rattle.model.specs.Model
 use native.Mathlib.Omega.{arith}
 use mathlib.Core.Path.{refl, ap, _∙_}

@@ -1,5 +1,6 @@
-use Rattle.events.proofs.Saying.{submit-bad, submit-good, room-left, few, tests-for}
-use Rattle.events.specs.Links.{headed, whole}
+use Rattle.events.proofs.Saying.{submit-bad, submit-good, room-left, tests-for}
+use Rattle.links.proofs.Fits.{few}
+use Rattle.links.specs.Links.{headed, whole}
 use Rattle.verdicts.proofs.Deciding.{bad-first, good-first}
 use Rattle.messages.specs.Messages.{submitOf}
 use Rattle.wire.specs.Codes.{HEADER-LEN}

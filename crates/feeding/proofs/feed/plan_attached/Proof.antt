@@ -1,5 +1,5 @@
-use Rattle.events.proofs.Fits.{attached-known, header-known, body-known}
-use Rattle.events.specs.Links.{attachedFits}
+use Rattle.links.proofs.Fits.{attached-known, header-known, body-known}
+use Rattle.links.specs.Links.{attachedFits}
 use mathlib.Core.Bool.{true}
 use Rattle.records.proofs.Records.{unmapped}
 use Rattle.pending.specs.Pending.{MAX-PENDING}

@@ -12,7 +12,7 @@ use Rattle.feeding.proofs.feed.plan_message.Reads as reads
 use Rattle.feeding.proofs.feed.plan_message.Lts as lts
 use Rattle.events.proofs.event.refused.Reads as refused-reads
 use Rattle.feeding.proofs.feed.plan_attached.Reads as plan-attached-reads
-use Rattle.events.proofs.state.phase_of.Reads as phase-of-reads
+use Rattle.links.proofs.phase_of.Reads as phase-of-reads
 use Rattle.verdicts.proofs.verdict.feed_verdict.Reads as feed-verdict-reads
 
 phase-of-requires : tie.Need-phase-of-requires

@@ -1,6 +1,6 @@
 use Rattle.verdicts.proofs.Good.{feed-clear}
 use Rattle.feeding.proofs.Acts.{in-phase, closed-waits, plans-refusal, plans-feed}
-use Rattle.events.specs.Links.{countsFit, phaseOf}
+use Rattle.links.specs.Links.{countsFit, phaseOf}
 use Rattle.verdicts.proofs.Deciding.{bad-first, good-first}
 use Rattle.verdicts.specs.Limits.{WAITING, CLOSED}
 use lib.Dec.{eqb}
@@ -14,7 +14,7 @@ use Rattle.feeding.proofs.feed.plan_request.Reads as reads
 use Rattle.feeding.proofs.feed.plan_request.Lts as lts
 use Rattle.events.proofs.event.refused.Reads as refused-reads
 use Rattle.feeding.proofs.feed.plan_waiting.Reads as plan-waiting-reads
-use Rattle.events.proofs.state.phase_of.Reads as phase-of-reads
+use Rattle.links.proofs.phase_of.Reads as phase-of-reads
 use Rattle.verdicts.proofs.verdict.feed_verdict.Reads as feed-verdict-reads
 
 phase-of-requires : tie.Need-phase-of-requires

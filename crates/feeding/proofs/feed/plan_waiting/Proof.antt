@@ -1,5 +1,5 @@
-use Rattle.events.proofs.Fits.{waiting-known}
-use Rattle.events.specs.Links.{countsFit}
+use Rattle.links.proofs.Fits.{waiting-known}
+use Rattle.links.specs.Links.{countsFit}
 use native.Mathlib.Omega.{arith}
 use mathlib.Core.Path.{ap, _∙_}
 use borrow.Author.Needs.{needs}

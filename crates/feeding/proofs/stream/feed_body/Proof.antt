@@ -1,14 +1,14 @@
 use Rattle.feeding.proofs.Pieces.{feeds-data, fits-body, body-waits, body-ends}
-use Rattle.events.specs.declared.state.Progress.{Progress}
+use Rattle.links.specs.declared.Progress.{Progress}
 use Rattle.events.specs.Plans.{told}
-use Rattle.events.specs.Links.{headed}
+use Rattle.links.specs.Links.{headed}
 use Rattle.model.specs.Cut.{lent}
 use Rattle.model.specs.Model.{hungry, bodyOf, submitted}
 use Rattle.wire.specs.Codes.{HEADER-LEN}
 use lib.Seq.{sets}
 use mathlib.Core.List.{List}
 use Prim.Native.Nat.{ℕ}
-use Rattle.events.specs.Links.{during, whole}
+use Rattle.links.specs.Links.{during, whole}
 use Rattle.records.proofs.Records.{unmapped}
 use lib.Seq.{take-all}
 use lib.ListN.{length, drop, length-drop}
@@ -22,7 +22,7 @@ use Rattle.feeding.proofs.stream.feed_body.Reads as reads
 use Rattle.feeding.proofs.stream.feed_body.Lts as lts
 use Rattle.events.proofs.event.hungry.Reads as hungry-reads
 use Rattle.events.proofs.event.submitted.Reads as submitted-reads
-use Rattle.events.proofs.state.body_len.Reads as body-len-reads
+use Rattle.links.proofs.body_len.Reads as body-len-reads
 
 full : (c : tie.Start) → length (c .args .p .head) ≡ HEADER-LEN
 full c = search (unmapped, needs)

@@ -1,11 +1,11 @@
 use Rattle.feeding.proofs.Pieces.{feeds, feeds-on, fits-header, part-waits, filled-to, header-unlinks, header-submits, header-breaks, header-goes-on-to, body-starts, some-body, short-body}
 use Rattle.feeding.proofs.Moments.{calm-48}
-use Rattle.events.specs.Links.{headed}
+use Rattle.links.specs.Links.{headed}
 use Rattle.model.specs.Model.{hungry, breaks, submitted}
 use Rattle.pending.specs.Pending.{MAX-PENDING, listOf}
 use Rattle.wire.specs.Codes.{HEADER-LEN}
 use Rattle.verdicts.proofs.Deciding.{bad-first, good-first}
-use Rattle.events.specs.Links.{during, whole}
+use Rattle.links.specs.Links.{during, whole}
 use Rattle.records.proofs.Records.{unmapped}
 use lib.Seq.{length-take-le}
 use lib.ListN.{length, take, drop}
@@ -22,7 +22,7 @@ use Rattle.events.proofs.event.broken.Reads as broken-reads
 use Rattle.events.proofs.event.hungry.Reads as hungry-reads
 use Rattle.events.proofs.event.submitted.Reads as submitted-reads
 use Rattle.events.proofs.event.unlinked.Reads as unlinked-reads
-use Rattle.events.proofs.state.body_len.Reads as body-len-reads
+use Rattle.links.proofs.body_len.Reads as body-len-reads
 use Rattle.feeding.proofs.stream.feed_body.Reads as feed-body-reads
 use Rattle.feeding.proofs.stream.grown.Reads as grown-reads
 use Rattle.feeding.proofs.stream.header_verdict.Reads as header-verdict-reads

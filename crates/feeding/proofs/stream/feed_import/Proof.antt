@@ -2,7 +2,7 @@ use Rattle.feeding.proofs.Pieces.{feeds, fits-waiting, part-waits, busi
 use Rattle.feeding.proofs.Moments.{calm-40}
 use Rattle.model.specs.Model.{hungry, imports, lookedUp}
 use Rattle.wire.specs.Codes.{OP-LEN, BUSID-LEN, HEADER-LEN}
-use Rattle.events.specs.Links.{during, whole}
+use Rattle.links.specs.Links.{during, whole}
 use Rattle.records.proofs.Records.{unmapped}
 use lib.Seq.{length-take-le}
 use lib.ListN.{length, take, drop, length-drop}

@@ -3,7 +3,7 @@ use Rattle.feeding.proofs.Moments.{calm-8}
 use Rattle.model.specs.Model.{hungry, list, breaks}
 use Rattle.wire.specs.Codes.{OP-LEN, HEADER-LEN}
 use Rattle.verdicts.proofs.Deciding.{bad-first, good-first}
-use Rattle.events.specs.Links.{during, whole}
+use Rattle.links.specs.Links.{during, whole}
 use Rattle.records.proofs.Records.{unmapped}
 use lib.Seq.{length-take-le}
 use lib.ListN.{length, take, drop}

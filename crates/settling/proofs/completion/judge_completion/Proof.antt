@@ -2,10 +2,10 @@ use Prim.Native.Nat.{ℕ}
 use mathlib.Core.Option.{Option}
 use mathlib.Core.List.{[]}
 use Rattle.verdicts.proofs.Good.{complete-clear}
-use Rattle.events.proofs.Saying.{live-view}
+use Rattle.links.proofs.Views.{live-view}
 use Rattle.settling.proofs.Acts.{live-phase, judged-by, complete-refused, complete-returns, returns-one}
-use Rattle.events.proofs.Saying.{one-pending}
-use Rattle.events.specs.Links.{bareOf, viewOf, whole}
+use Rattle.links.proofs.Fits.{one-pending}
+use Rattle.links.specs.Links.{bareOf, viewOf, whole}
 use Rattle.settling.specs.Completing.{asked, handed}
 use Rattle.model.specs.Model.{Sess, return, completeTests, completeOf}
 use Rattle.verdicts.proofs.Deciding.{bad-first, good-first}
@@ -29,7 +29,7 @@ use Rattle.settling.proofs.completion.completing.Reads as completing-re
 use Rattle.settling.proofs.completion.reply_for.Reads as reply-for-reads
 use Rattle.settling.proofs.completion.returned_link.Reads as returned-link-reads
 use Rattle.settling.proofs.completion.search_ticket.Reads as search-ticket-reads
-use Rattle.events.proofs.state.phase_of.Reads as phase-of-reads
+use Rattle.links.proofs.phase_of.Reads as phase-of-reads
 use Rattle.transmit.proofs.wire_length.Reads as wire-length-reads
 use Rattle.verdicts.proofs.verdict.complete_verdict.Reads as complete-verdict-reads
 

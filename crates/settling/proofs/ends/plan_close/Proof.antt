@@ -1,8 +1,8 @@
-use Rattle.events.proofs.Saying.{live}
+use Rattle.links.proofs.Views.{live}
 use Rattle.settling.proofs.Acts.{close-refused, close-ends}
 use Rattle.events.proofs.Saying.{drops-all, listed-tickets}
-use Rattle.events.proofs.Fits.{counts-known}
-use Rattle.events.specs.Links.{countsFit, phaseOf, viewOf, whole, resting}
+use Rattle.links.proofs.Fits.{counts-known}
+use Rattle.links.specs.Links.{countsFit, phaseOf, viewOf, whole, resting}
 use Rattle.events.specs.Answers.{droppedBeside}
 use Rattle.model.specs.Model.{Close, closed, end}
 use Rattle.verdicts.specs.Limits.{CLOSED}
@@ -18,7 +18,7 @@ use Rattle.settling.proofs.ends.plan_close.Tie as tie
 use Rattle.settling.proofs.ends.plan_close.Reads as reads
 use Rattle.settling.proofs.ends.plan_close.Lts as lts
 use Rattle.events.proofs.event.ended.Reads as ended-reads
-use Rattle.events.proofs.state.phase_of.Reads as phase-of-reads
+use Rattle.links.proofs.phase_of.Reads as phase-of-reads
 
 phase-of-requires : tie.Need-phase-of-requires
 phase-of-requires c κs = search needs

@@ -1,4 +1,4 @@
-use Rattle.events.specs.Links.{whole, viewOf}
+use Rattle.links.specs.Links.{whole, viewOf}
 use Rattle.events.specs.Answers.{closingOf}
 use Rattle.records.proofs.Records.{unmapped}
 use Rattle.pending.specs.Pending.{MAX-PENDING}

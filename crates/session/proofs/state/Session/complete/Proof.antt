@@ -1,4 +1,4 @@
-use Rattle.events.specs.Links.{whole, viewOf}
+use Rattle.links.specs.Links.{whole, viewOf}
 use Rattle.events.specs.Answers.{completionOf}
 use mathlib.Core.Path.{refl, _∙_}
 use borrow.Author.Needs.{needs}

@@ -1,4 +1,4 @@
-use Rattle.events.specs.Links.{whole, viewOf}
+use Rattle.links.specs.Links.{whole, viewOf}
 use Rattle.events.specs.Answers.{eventOf}
 use Rattle.events.specs.Plans.{replyBytes}
 use Rattle.model.specs.Cut.{lent}

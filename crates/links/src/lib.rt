@@ -1,4 +1,5 @@
-// The link to the client, and when its parts fit together.
+// The link to the client, and the guard that takes one whose parts don't fit together for closed. What it stands for is in
+// specs/.
 use messages::message::read_submit;
 use pending::list::MAX_PENDING;
 use verdicts::limits::ATTACHED;
@@ -11,7 +12,7 @@ use wire::codes::HEADER_LEN;
 use wire::codes::OP_LEN;
 ghost use mathlib.Core.Path.{_≡_};
 ghost use Rattle.model.specs.Model.{bodyOf};
-ghost use Rattle.events.specs.Links.{countsFit, waitingFits, attachedFits, progressFits, phaseOf};
+ghost use Rattle.links.specs.Links.{countsFit, waitingFits, attachedFits, progressFits, phaseOf};
 
 // How many URBs were ever accepted, and what became of those that are no longer pending.
 #[repr(C)]

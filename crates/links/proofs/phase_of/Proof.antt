@@ -1,12 +1,12 @@
-use Rattle.events.proofs.Fits.{odd-by-counts, odd-by-progress, phase-fit}
+use Rattle.links.proofs.Fits.{odd-by-counts, odd-by-progress, phase-fit}
 use mathlib.Core.Bool.{true}
 use borrow.Author.Needs.{needs}
-use Rattle.events.proofs.state.phase_of.Statement.{statement}
-use Rattle.events.proofs.state.phase_of.Tie as tie
-use Rattle.events.proofs.state.phase_of.Reads as reads
-use Rattle.events.proofs.state.phase_of.Lts as lts
-use Rattle.events.proofs.state.counts_fit.Reads as counts-fit-reads
-use Rattle.events.proofs.state.progress_fits.Reads as progress-fits-reads
+use Rattle.links.proofs.phase_of.Statement.{statement}
+use Rattle.links.proofs.phase_of.Tie as tie
+use Rattle.links.proofs.phase_of.Reads as reads
+use Rattle.links.proofs.phase_of.Lts as lts
+use Rattle.links.proofs.counts_fit.Reads as counts-fit-reads
+use Rattle.links.proofs.progress_fits.Reads as progress-fits-reads
 
 counts-fit-requires : tie.Need-counts-fit-requires
 counts-fit-requires c κs = search needs

@@ -6,16 +6,20 @@ use mathlib.Core.Bool.{Bool, true, false, cond, not, _&&_, _||_, true≢false}
 use lib.Dec.{eqb, leb, ltb}
 use borrow.Author.Tests.{eqb-true, eqb-false, eq-eqb, ne-eqb, le-leb, lt-leb, leb-true, lt-ltb, le-ltb, ltb-true}
 use mathlib.Core.List.{List}
+use lib.ListN.{length-take}
 use Rattle.wire.specs.Codes
 use Rattle.messages.specs.Messages.{submitOf}
 use Rattle.messages.specs.declared.message.Submit.{Submit}
-use Rattle.pending.specs.Pending.{MAX-PENDING}
+use Rattle.pending.specs.Pending.{MAX-PENDING, ticketOf, listOf, placeBy}
+use Rattle.pending.specs.declared.list.Pending.{Pending}
+use Rattle.pending.specs.declared.list.Place.the-variants.{At}
+use Rattle.pending.proofs.Finding.{place-find}
 use Rattle.verdicts.specs.Limits
 use Rattle.model.specs.Model.{bodyOf}
-use Rattle.events.specs.Links.{countsFit, waitingFits, attachedFits, progressFits, phaseOf}
-use Rattle.events.specs.declared.state.Counts.{Counts}
-use Rattle.events.specs.declared.state.Progress.{Progress}
-use Rattle.events.specs.declared.state.Link.{Link}
+use Rattle.links.specs.Links.{Parts, countsFit, waitingFits, attachedFits, progressFits, phaseOf, Attached}
+use Rattle.links.specs.declared.Counts.{Counts}
+use Rattle.links.specs.declared.Progress.{Progress}
+use Rattle.links.specs.declared.Link.{Link}
 
 -- ## The counts
 
@@ -134,3 +138,15 @@ module _ (p : Progress) (h : attachedFits p ≡ true) where
       let a = both (eqb (p .filled) Codes.HEADER-LEN) rest (either first (eqb (p .filled) Codes.HEADER-LEN && rest) h z) in
       let c = both (leb (bodyOf (p .head)) Limits.MAX-TRANSFER) (ltb (p .body) (bodyOf (p .head))) (a .1) in
       (eqb-true (p .filled) Codes.HEADER-LEN (a .0), ltb-true (p .body) (bodyOf (p .head)) (c .1), leb-true (bodyOf (p .head)) Limits.MAX-TRANSFER (c .0))
+
+-- an attached session has no more pending than there is room for
+pub few : (s : Parts) → Attached s → s .pending .count ≤ MAX-PENDING
+few s h = counts-known (s .link .counts) (s .pending .count) (h .0) .0
+
+-- what is pending isn't ended yet
+pub one-pending : (c : Counts) (list : Pending) (t i : ℕ) → countsFit c (list .count) ≡ true → placeBy ticketOf t (listOf list) ≡ At i → (c .returned < c .accepted) × (c .unlinked < c .accepted)
+one-pending c list t i h e =
+    let n = counts-known c (list .count) h in
+    let k = place-find ticketOf t (listOf list) i e .1 in
+    let m = length-take (list .count) (list .urbs) in
+    (omega (arith, n .1, k, m), omega (arith, n .1, k, m))

@@ -1,12 +1,12 @@
 use Prim.Native.Nat.{_-_}
 use mathlib.Core.Path.{sym}
-use Rattle.events.proofs.Fits.{odd-counts, last-count}
+use Rattle.links.proofs.Fits.{odd-counts, last-count}
 use borrow.Author.Tests.{lt-leb}
 use native.Mathlib.Omega.{arith}
-use Rattle.events.proofs.state.counts_fit.Statement.{statement}
-use Rattle.events.proofs.state.counts_fit.Tie as tie
-use Rattle.events.proofs.state.counts_fit.Reads as reads
-use Rattle.events.proofs.state.counts_fit.Lts as lts
+use Rattle.links.proofs.counts_fit.Statement.{statement}
+use Rattle.links.proofs.counts_fit.Tie as tie
+use Rattle.links.proofs.counts_fit.Reads as reads
+use Rattle.links.proofs.counts_fit.Lts as lts
 
 returns : tie.Need-returns
 returns c = rw (lt-leb _ _ (c .if1 .taken))

@@ -11,9 +11,9 @@ use Rattle.pending.specs.Pending.{MAX-PENDING, listOf}
 use Rattle.pending.specs.declared.list.Pending.{Pending}
 use Rattle.verdicts.specs.Limits
 use Rattle.model.specs.Model.{Sess, bodyOf}
-use Rattle.events.specs.declared.state.Counts.{Counts}
-use Rattle.events.specs.declared.state.Progress.{Progress}
-use Rattle.events.specs.declared.state.Link.{Link}
+use Rattle.links.specs.declared.Counts.{Counts}
+use Rattle.links.specs.declared.Progress.{Progress}
+use Rattle.links.specs.declared.Link.{Link}
 
 -- The parts of a session.
 pub record Parts : Type 0 where

@@ -1,0 +1,44 @@
+-- The view of a session: with the phase of its link where its parts fit together, closed where they don't.
+use Prim.Native.Nat.{ℕ}
+use mathlib.Core.Path.{_≡_, refl}
+use mathlib.Core.Bool.{Bool, true, false, cond, _&&_, true≢false}
+use lib.Dec.{eqb}
+use Rattle.exports.specs.declared.device.Table.{Table}
+use Rattle.pending.specs.declared.list.Pending.{Pending}
+use Rattle.verdicts.specs.Limits
+use Rattle.links.specs.Links.{Parts, countsFit, progressFits, phaseOf, bareOf, inPhase, viewOf, whole, resting, Live}
+use Rattle.links.specs.declared.Counts.{Counts}
+
+-- the view of a session whose parts fit together, and of one that is closed
+pub view-fit : (s : Parts) → countsFit (s .link .counts) (s .pending .count) ≡ true → progressFits (s .link .phase) (s .link .progress) ≡ true → viewOf s ≡ bareOf s
+unfolding phaseOf
+view-fit s c p = rw (c, p)
+
+-- a session that isn't closed
+module _ (s : Parts) where
+  pub live : eqb (phaseOf (s .link) (s .pending .count)) Limits.CLOSED ≡ false → Live s
+  unfolding phaseOf
+  live h = at (countsFit (s .link .counts) (s .pending .count)) (progressFits (s .link .phase) (s .link .progress)) h
+    where
+      at : (a b : Bool) → eqb (cond (a && b) (s .link .phase) Limits.CLOSED) Limits.CLOSED ≡ false → (a ≡ true) × (b ≡ true)
+      at true true h = (refl, refl)
+      at true false h = absurd (true≢false h)
+      at false b h = absurd (true≢false h)
+
+  pub live-view : Live s → viewOf s ≡ bareOf s
+  live-view l = view-fit s (l .0) (l .1)
+
+pub view-closed : (s : Parts) → s .link .phase ≡ Limits.CLOSED → viewOf s ≡ bareOf s
+unfolding phaseOf
+view-closed s e = rw e (at (countsFit (s .link .counts) (s .pending .count) && progressFits Limits.CLOSED (s .link .progress)))
+  where
+    at : (c : Bool) → inPhase (cond c Limits.CLOSED Limits.CLOSED) (bareOf s) ≡ inPhase Limits.CLOSED (bareOf s)
+    at true = refl
+    at false = refl
+
+-- with no message in progress
+pub view-shut : (t : Table) (devid : ℕ) (c : Counts) (p : Pending) → viewOf (whole t (resting Limits.CLOSED devid c) p) ≡ bareOf (whole t (resting Limits.CLOSED devid c) p)
+view-shut t devid c p = view-closed (whole t (resting Limits.CLOSED devid c) p) refl
+
+pub view-attached : (t : Table) (devid : ℕ) (c : Counts) (p : Pending) → countsFit c (p .count) ≡ true → viewOf (whole t (resting Limits.ATTACHED devid c) p) ≡ bareOf (whole t (resting Limits.ATTACHED devid c) p)
+view-attached t devid c p h = view-fit (whole t (resting Limits.ATTACHED devid c) p) h refl
