@@ -3,15 +3,14 @@ use Prim.Native.Nat.{ℕ, zero, suc, _+_, _-_}
 use mathlib.Core.Bool.{Bool, true, false}
 use mathlib.Core.List.{List, [], _∷_, _++_, map}
 use mathlib.Core.Path.{_≡_}
-use mathlib.Core.Option.{Option, none, some}
+use mathlib.Core.Option.{none, some}
 use lib.ListN.{length, take, replicate}
 use Rattle.wire.specs.BigEndian.{bytesOf}
 use Rattle.wire.specs.Fields.{joined}
-use Rattle.exports.specs.Devices.{noDevice}
 use Rattle.exports.specs.declared.device.Device.{Device}
 use Rattle.exports.specs.declared.device.Table.{Table}
 use Rattle.verdicts.specs.Limits
-use Rattle.model.specs.Model.{Sess, closed, Numbers, numbersOf, Event, list, import, submit, answer, unlink, break, Buffers, Completion, feedOf, openOf}
+use Rattle.model.specs.Model.{Sess, closed, Numbers, numbersOf, Event, list, import, submit, answer, unlink, break, feedOf, openOf}
 use Rattle.model.specs.Book.{Call, feed, complete}
 use Rattle.model.specs.Claims.{answerTo, nextOf}
 use Rattle.pending.specs.declared.urb.Urb.{Urb}

@@ -1,9 +1,7 @@
 -- What each message is made of (source document 000, section 3; 01, "Bytes on the wire").
 use Prim.Native.Nat.{ℕ}
-use mathlib.Core.List.{List, [], _∷_, _++_}
-use mathlib.Core.Bool.{Bool, true, false, cond}
+use mathlib.Core.List.{List, [], _∷_}
 use lib.ListN.{take, drop}
-use lib.Dec.{eqb}
 use Rattle.wire.specs.Codes
 use Rattle.wire.specs.Fields.{u16, u32, pack, field}
 use Rattle.messages.specs.declared.request.Request.{Request}

@@ -1,15 +1,15 @@
 -- Laws of the book's lists.
-use Prim.Native.Nat.{ℕ, zero, suc, _+_, _-_, _≤_, _<_}
+use Prim.Native.Nat.{ℕ, suc, _+_, _-_, _≤_, _<_}
 use native.Mathlib.Omega.{arith}
 use mathlib.Core.Path.{_≡_, refl, sym, ap, _∙_}
-use mathlib.Core.Logic.{_↔_, _⊎_, inl, inr, ⊎-elim}
+use mathlib.Core.Logic.{_⊎_, ⊎-elim}
 use mathlib.Core.List.{List, [], _∷_, _++_, map, List·Memᴰ, List·Memᴰ·head, List·Memᴰ·tail, List·Memᴰ·not-nil, List·Memᴰ·cases-cons}
 use mathlib.Core.Bool.{Bool, true, false, cond}
 use mathlib.Core.Option.{Option, none, some}
-use lib.ListN.{length, take, length-append}
+use lib.ListN.{length, length-append}
 use lib.Dec.{eqb}
 use borrow.Author.Tests.{eqb-true, eqb-false, eq-eqb, ne-eqb}
-use Rattle.pending.specs.Pending.{ticketOf, seqnumOf, tickets, findBy, found, without, withoutFirst, Above, Rising as Increasing}
+use Rattle.pending.specs.Pending.{ticketOf, tickets, findBy, without, withoutFirst, Above, Rising as Increasing}
 use Rattle.pending.proofs.Without.{first-only}
 use Rattle.model.specs.Model.{End, returned, unlinked, dropped, same}
 use Rattle.model.specs.Book.{Fate, pending, over, Item, item, settled, mark, markAll, ifPending, pendingOf, isEnd, count}

@@ -1,39 +1,37 @@
 -- What is said at a byte is right by the book, and the book allows its effect.
-use Prim.Native.Nat.{ℕ, zero, suc, _+_, _-_, _≤_, _<_}
+use Prim.Native.Nat.{ℕ, suc, _+_, _-_, _≤_, _<_}
 use native.Mathlib.Omega.{arith}
 use mathlib.Core.Path.{_≡_, refl, sym, ap, subst, _∙_}
-use mathlib.Core.Logic.{_↔_, _⊎_, inl, inr, ⊎-elim}
+use mathlib.Core.Logic.{inl, inr}
 use mathlib.Core.List.{List, [], _∷_, _++_, map}
-use mathlib.Core.Bool.{Bool, true, false, cond, not, _&&_, _||_, true≢false}
+use mathlib.Core.Bool.{false}
 use mathlib.Core.Option.{Option, none, some}
-use lib.Dec.{eqb, leb, ltb}
+use lib.Dec.{eqb}
 use lib.ListN.{length, take, drop, length-append, length-take, length-drop}
 use lib.Seq.{take-all, take-append-le, drop-append-le}
-use borrow.Author.Tests.{eqb-true, eqb-false, eq-eqb, ne-eqb, ltb-true, ltb-false}
+use borrow.Author.Tests.{eqb-true, eqb-false, ltb-true, ltb-false}
 use Rattle.wire.specs.Codes
 use Rattle.wire.specs.BigEndian.{numberOf}
 use Rattle.wire.specs.Fields.{field}
-use Rattle.wire.specs.Status.{minus}
 use Rattle.messages.specs.Messages.{requestOf, busidOf, commandOf, submitOf, unlinkOf}
 use Rattle.messages.specs.declared.request.Request.{Request}
-use Rattle.exports.specs.Devices.{devicesOf}
 use Rattle.lookup.specs.Lookup.{findIn}
 use Rattle.exports.specs.declared.device.Table.{Table}
 use Rattle.lookup.specs.declared.Found.{Found}
 use Rattle.lookup.specs.declared.Found.the-variants.{At, Nothing}
 use Rattle.lookup.proofs.First.{find-first}
-use Rattle.pending.specs.Pending.{ticketOf, seqnumOf, tickets, findBy, found}
+use Rattle.pending.specs.Pending.{ticketOf, seqnumOf, findBy}
 use Rattle.verdicts.specs.Limits
-use Rattle.verdicts.specs.Tests.{first, decide, by-first, pick, by-test}
-use Rattle.verdicts.specs.Rows.{Gives, Clear}
+use Rattle.verdicts.specs.Tests.{first, by-first, by-test}
+use Rattle.verdicts.specs.Rows.{Clear}
 use Rattle.verdicts.specs.Verdicts
-use Rattle.model.specs.Model.{Sess, Event, hungry, list, import, submit, answer, unlink, break, refusal, return, end, urbOf, bodyOf, breaks, requestTests, messageTests, submitTests}
-use Rattle.model.specs.Model.{submitted, submitting, unlinks, headed, message, requested, lookedUp, imports, request, judge, effectOf, nothing, shut, settles}
-use Rattle.model.specs.Book.{Book, pendingOf, took, Some}
-use Rattle.model.specs.Claims.{header, sizeOf, requestRows, messageRows, submitRows, RightRequest, RightMessage, Removes, byPhase, Apart}
+use Rattle.model.specs.Model.{Sess, Event, hungry, urbOf, bodyOf, requestTests, messageTests, submitTests}
+use Rattle.model.specs.Model.{submitted, submitting, unlinks, headed, message, requested, lookedUp, imports, request, judge, effectOf}
+use Rattle.model.specs.Book.{Book, pendingOf, took}
+use Rattle.model.specs.Claims.{header, sizeOf, requestRows, messageRows, submitRows, RightRequest, RightMessage, byPhase, Apart}
 use Rattle.model.proofs.Facts.{differ, find-key, find-none, mem-to, mem-from, mem-found, apart-mem}
 use Rattle.verdicts.proofs.Match.{gives, clear, second}
-use Rattle.model.proofs.Tables.{request-match, message-match, submit-match, some-iff}
+use Rattle.model.proofs.Tables.{request-match, message-match, submit-match}
 use Rattle.model.proofs.Steps.{sessionOf, Fit, Allowed}
 use Rattle.pending.specs.declared.urb.Urb.{Urb}
 

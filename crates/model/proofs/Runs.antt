@@ -1,40 +1,39 @@
 -- After every list of calls the session is the one that the book describes, and each answer is right by the book before it.
-use Prim.Native.Nat.{ℕ, zero, suc, _+_, _-_, _≤_, _<_}
+use Prim.Native.Nat.{ℕ, suc, _+_, _-_, _≤_, _<_}
 use native.Mathlib.Omega.{arith}
 use mathlib.Core.Path.{_≡_, refl, sym, ap, subst, _∙_}
-use mathlib.Core.Logic.{_↔_, _⊎_, inl, inr, ⊎-elim}
-use mathlib.Core.List.{List, [], _∷_, _++_, map, append-nil, append-assoc, List·Memᴰ}
+use mathlib.Core.Logic.{_⊎_, inl, inr, ⊎-elim}
+use mathlib.Core.List.{List, [], _∷_, _++_, append-nil}
 use mathlib.Core.Bool.{Bool, true, false, cond, not, true≢false}
 use mathlib.Core.Option.{Option, none, some}
-use lib.Dec.{eqb, leb, ltb}
-use lib.ListN.{length, take, drop, length-append, length-take, getD}
+use lib.Dec.{eqb, ltb}
+use lib.ListN.{length, take, drop, length-append, length-take}
 use lib.Seq.{sets, take-all, take-append-le, append-snoc}
 use borrow.Author.Tests.{eqb-true, eqb-false, ltb-true, ltb-false}
 use Rattle.wire.specs.Codes
 use Rattle.messages.specs.Messages.{busidOf, retSubmit}
 use Rattle.wire.specs.Writing.{over}
-use Rattle.exports.specs.Devices.{noDevice, devicesOf}
-use Rattle.lookup.specs.Lookup.{findIn, First}
+use Rattle.exports.specs.Devices.{devicesOf}
+use Rattle.lookup.specs.Lookup.{First}
 use Rattle.exports.specs.declared.device.Table.{Table}
 use Rattle.lookup.specs.declared.Found.{Found}
-use Rattle.lookup.specs.declared.Found.the-variants.{At, Nothing}
 use Rattle.lookup.proofs.First.{find-first}
 use Rattle.transmit.specs.Part.{wireLength}
-use Rattle.pending.specs.Pending.{ticketOf, seqnumOf, tickets, findBy, found, without}
+use Rattle.pending.specs.Pending.{ticketOf, seqnumOf, tickets, findBy}
 use Rattle.verdicts.specs.Limits
-use Rattle.verdicts.specs.Tests.{first, decide, by-first, pick, by-test}
+use Rattle.verdicts.specs.Tests.{first, by-first, pick, by-test}
 use Rattle.verdicts.specs.Rows.{Gives, Clear}
 use Rattle.model.specs.Machine.{Fed}
 use Rattle.model.specs.Model.{Sess, closed, Event, hungry, list, import, submit, answer, unlink, break, refusal, return, end, isHungry, theUrb}
-use Rattle.model.specs.Model.{act, between, after, attach, deviceOf, lookedUp, devidOf, effectOf, settles, add, settle, drop-all, shut, nothing, unlinked, returned, judge, grow, put, tell, replyTo, importBytes, inHead, Buffers, feedBytes, feedTests, feedOf, idleFeed, Completion, completeTests, Complete, completeOf, Close, closeOf, Open, openOf, fresh, noTable, Numbers}
-use Rattle.model.specs.Book.{Call, feed, complete, close, Book, opened, mark, apply, ends, cleared, took, keepEvent, keep, pendingOf, countsOf, Pending, Some}
+use Rattle.model.specs.Model.{act, between, after, deviceOf, lookedUp, devidOf, effectOf, add, settle, drop-all, shut, unlinked, returned, judge, grow, put, replyTo, importBytes, Buffers, feedBytes, feedTests, feedOf, idleFeed, Completion, completeTests, Complete, completeOf, Close, closeOf, Open, openOf, fresh, noTable}
+use Rattle.model.specs.Book.{Call, feed, complete, close, Book, opened, apply, cleared, took, keepEvent, keep, pendingOf, Pending}
 use Rattle.model.specs.Cut.{stepAll}
-use Rattle.model.specs.Claims.{answerTo, nextOf, header, requestRows, messageRows, feedRows, completeRows, closeRows, RightRequest, RightMessage, byPhase, Replies, placeOf, dataIn, RightFeed, RightComplete, RightClose, Right, Agrees, Grown, Moves, givenIn, Parts, Attaches, consumed, Holds, Demand3}
+use Rattle.model.specs.Claims.{answerTo, nextOf, header, feedRows, completeRows, closeRows, RightRequest, RightMessage, byPhase, Replies, placeOf, dataIn, Right, Agrees, Grown, Moves, givenIn, Parts, Attaches, consumed, Holds, Demand3}
 use Rattle.model.proofs.Facts.{differ, sum, grown-refl, tickets-rise, find-key, find-none, apart-mem, mem-to, mem-from, pending-before}
 use Rattle.verdicts.proofs.Match.{gives, clear}
 use Rattle.model.proofs.Tables.{feed-match, complete-match}
-use Rattle.model.proofs.Steps.{sessionOf, Fit, Allowed, phaseAfter, Step, step, fit-part}
-use Rattle.model.proofs.Judged.{Going, Came, came, Told, judge-right}
+use Rattle.model.proofs.Steps.{sessionOf, Fit, Allowed, step, fit-part}
+use Rattle.model.proofs.Judged.{Going, came, Told, judge-right}
 use Rattle.model.proofs.Untouched.{untouched}
 use Rattle.pending.specs.declared.urb.Urb.{Urb}
 

@@ -1,24 +1,17 @@
 -- Each table of tests of the model matches 01's table by the book.
-use Prim.Native.Nat.{ℕ, suc, _<_, _≤_}
-use native.Mathlib.Omega.{arith}
-use mathlib.Core.Path.{_≡_, refl, sym, ap, _∙_}
-use mathlib.Core.Logic.{_↔_, _⊎_, inl, inr, ⊎-elim}
-use mathlib.Core.Bool.{Bool, true, false, cond, not, _&&_, _||_, true≢false}
-use mathlib.Core.List.{List, [], _∷_, map, List·Memᴰ}
+use Prim.Native.Nat.{ℕ}
+use mathlib.Core.Path.{_≡_, refl, sym, _∙_}
+use mathlib.Core.Logic.{_↔_}
+use mathlib.Core.Bool.{true, false, not, true≢false}
+use mathlib.Core.List.{List}
 use mathlib.Core.Option.{Option, none, some}
-use lib.Dec.{eqb, leb, ltb}
-use lib.ListN.{length, take}
-use Rattle.wire.specs.Codes
-use Rattle.wire.specs.Status.{signedOf, positive}
+use lib.ListN.{length}
 use Rattle.messages.specs.Messages.{requestOf, commandOf, submitOf}
-use Rattle.exports.proofs.Tests.{leb-iff, eqb-iff, not-iff, and-iff, not-or}
-use Rattle.pending.specs.Pending.{MAX-PENDING, ticketOf, seqnumOf, findBy, found}
-use Rattle.verdicts.specs.Limits
-use Rattle.verdicts.specs.Tests.{Test, test, first}
-use Rattle.verdicts.specs.Rows.{Row, row, Gives, Clear}
+use Rattle.exports.proofs.Tests.{not-iff}
+use Rattle.pending.specs.Pending.{ticketOf, seqnumOf, findBy, found}
 use Rattle.model.specs.Model.{Sess, closed, theUrb, Buffers, Completion, requestTests, messageTests, submitTests, feedTests, completeTests, completing}
-use Rattle.model.specs.Book.{Book, Item, pendingOf, Pending, Some, None, item, pending}
-use Rattle.model.specs.Claims.{Tickets, Distinct, Holder, feedRows, completeRows, requestRows, messageRows, submitRows}
+use Rattle.model.specs.Book.{Book, Item, pendingOf, Some, None}
+use Rattle.model.specs.Claims.{Tickets, Holder, feedRows, completeRows, requestRows, messageRows, submitRows}
 use Rattle.model.proofs.Facts.{mem-to, mem-from, find-key, find-none, apart-mem, distinct-one, tickets-distinct}
 use Rattle.verdicts.proofs.Match.{Match}
 use Rattle.verdicts.proofs.Tables

@@ -25,7 +25,7 @@ use Rattle.verdicts.specs.Rows.{Row, row, Gives, Clear}
 use Rattle.verdicts.specs.Verdicts
 use Rattle.verdicts.specs.Verdicts.{Not}
 use Rattle.verdicts.specs.declared.verdict.Completing.{Completing}
-use Rattle.model.specs.Model.{Sess, Numbers, numbersOf, closed, Event, hungry, list, import, submit, answer, unlink, break, refusal, return, end}
+use Rattle.model.specs.Model.{Sess, numbersOf, closed, Event, hungry, list, import, submit, answer, unlink, break, refusal, return, end}
 use Rattle.model.specs.Model.{End, returned, unlinked, dropped, urbOf, Buffers, Completion, feedOf, completeOf, closeOf, openOf}
 use Rattle.model.specs.Book.{Call, feed, complete, close, Answer, Book, opened, Item, item, pending, over as ended, keep, pendingOf, count, countsOf, Pending, Some, None}
 use Rattle.pending.specs.declared.urb.Urb.{Urb}

@@ -1,8 +1,7 @@
 -- Tapes played by the definitions: 01's example, and how a record's stream bytes are fed.
 use Prim.Native.Nat.{ℕ}
-use Prim.Native.String.{String}
 use mathlib.Core.Path.{_≡_, refl}
-use mathlib.Core.Bool.{Bool, true, false}
+use mathlib.Core.Bool.{Bool, false}
 use mathlib.Core.List.{List, [], _∷_, _++_, map}
 use lib.ListN.{length, take, drop, replicate}
 use Rattle.wire.specs.BigEndian.{bytesOf}
@@ -22,7 +21,7 @@ use Rattle.tape.specs.Table.{tapeTable}
 use Rattle.tape.specs.declared.reader.Record.{Record}
 use Rattle.tape.specs.declared.reader.Record.the-variants.{Stream, Completion, Close}
 use Rattle.numerals.specs.Digits.{ascii, numeral, digits}
-use Rattle.player.specs.Play.{Play, playStream, playRecord}
+use Rattle.player.specs.Play.{playStream, playRecord}
 
 -- A record and its stream bytes.
 record Item : Type 0 where

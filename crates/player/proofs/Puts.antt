@@ -1,12 +1,12 @@
 -- Lines put one after the other.
 use Prim.Native.Nat.{ℕ, _+_, _-_, _≤_}
-use mathlib.Core.Path.{_≡_, refl, sym, ap, _∙_}
+use mathlib.Core.Path.{_≡_, refl, sym, _∙_}
 use mathlib.Core.Bool.{Bool, true, false, cond}
 use mathlib.Core.List.{List, [], _++_, append-nil}
 use native.Mathlib.Omega.{arith}
 use lib.ListN.{length, take, drop, length-append, length-take, length-drop}
 use lib.Seq.{take-all, length-take-le}
-use Rattle.wire.specs.Writing.{fitting, over, Wrote}
+use Rattle.wire.specs.Writing.{Wrote}
 use Rattle.wire.proofs.Parts.{wrote-all, wrote-count, written-behind}
 use Rattle.events.specs.Answers.{removed}
 use Rattle.events.specs.declared.answer.Removed.{Removed}

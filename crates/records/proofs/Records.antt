@@ -5,7 +5,7 @@ use mathlib.Core.List.{List, [], _∷_, _++_, map}
 use native.Mathlib.Omega.{arith}
 use lib.ListN.{length, take, getD, length-append, length-map}
 use Rattle.wire.specs.BigEndian.{bytesOf}
-use Rattle.wire.specs.Fields.{pack, joined}
+use Rattle.wire.specs.Fields.{joined}
 use Rattle.wire.proofs.Numbers.{one-byte}
 use Rattle.wire.proofs.Heads.{pack-length}
 use Rattle.records.specs.Records.{DEVICE-LEN, numbersOf, deviceRecord, Shaped}

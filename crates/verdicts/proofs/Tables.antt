@@ -1,9 +1,8 @@
 -- Each table of tests matches its table of conditions: a number is given exactly when its condition holds and none before it.
-use Prim.Native.Nat.{ℕ, suc, _<_, _≤_}
+use Prim.Native.Nat.{ℕ, suc, _<_}
 use mathlib.Core.Path.{_≡_, refl}
-use mathlib.Core.Logic.{_↔_, _⊎_}
-use mathlib.Core.Bool.{Bool, true, false, not, _&&_, _||_}
-use lib.Dec.{eqb, leb, ltb}
+use mathlib.Core.Logic.{_↔_}
+use mathlib.Core.Bool.{Bool, true, false, not, _||_}
 use Rattle.wire.specs.Codes
 use Rattle.messages.specs.declared.request.Request.{Request}
 use Rattle.messages.specs.declared.message.Submit.{Submit}

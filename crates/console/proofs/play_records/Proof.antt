@@ -13,16 +13,6 @@ use Rattle.tape.specs.Layout.{MAX-RECORDS}
 use borrow.Author.Needs.{needs}
 use Rattle.console.proofs.play_records.Statement.{statement}
 use Rattle.console.proofs.play_records.Tie as tie
-use Rattle.console.proofs.play_records.Reads as reads
-use Rattle.console.proofs.play_records.Lts as lts
-use Rattle.console.proofs.input.no_window.Reads as no-window-reads
-use Rattle.console.proofs.input.refill.Reads as refill-reads
-use Rattle.console.proofs.output.flush.Reads as flush-reads
-use Rattle.console.proofs.output.make_room.Reads as make-room-reads
-use Rattle.console.proofs.print_bad_tape.Reads as print-bad-tape-reads
-use Rattle.player.proofs.record.play_record.Reads as play-record-reads
-use Rattle.tape.proofs.reader.read_next.Reads as read-next-reads
-use Rattle.tape.proofs.reader.record_len.Reads as record-len-reads
 
 abbrev Inv-loop : tie.InvT-loop
 Inv-loop traced input₀ work₀ reply₀ out₀ s₀ window₀ len₀ n₀ input work reply out s window len n =

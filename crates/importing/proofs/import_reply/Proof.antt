@@ -12,11 +12,6 @@ use Rattle.importing.proofs.Offsets.{import-length}
 use borrow.Author.Needs.{needs}
 use Rattle.importing.proofs.import_reply.Statement.{statement}
 use Rattle.importing.proofs.import_reply.Tie as tie
-use Rattle.importing.proofs.import_reply.Reads as reads
-use Rattle.importing.proofs.import_reply.Lts as lts
-use Rattle.records.proofs.record.write_record.Reads as write-record-reads
-use Rattle.messages.proofs.reply.reply_head.Reads as reply-head-reads
-use Rattle.wire.proofs.writing.write.Reads as write-reads
 
 shaped : (c : tie.Start) → Shaped (c .args .d)
 shaped c = search (unmapped, needs)

@@ -2,10 +2,6 @@ use Rattle.importing.specs.Imports.{importRefusal}
 use borrow.Author.Needs.{needs}
 use Rattle.importing.proofs.refuse_import.Statement.{statement}
 use Rattle.importing.proofs.refuse_import.Tie as tie
-use Rattle.importing.proofs.refuse_import.Reads as reads
-use Rattle.importing.proofs.refuse_import.Lts as lts
-use Rattle.messages.proofs.reply.reply_head.Reads as reply-head-reads
-use Rattle.wire.proofs.writing.write.Reads as write-reads
 
 reply-head-requires : tie.Need-reply-head-requires
 reply-head-requires c κs = search needs

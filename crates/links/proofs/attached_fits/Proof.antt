@@ -3,9 +3,6 @@ use borrow.Author.Tests.{le-ltb, ne-eqb}
 use borrow.Author.Needs.{needs}
 use Rattle.links.proofs.attached_fits.Statement.{statement}
 use Rattle.links.proofs.attached_fits.Tie as tie
-use Rattle.links.proofs.attached_fits.Reads as reads
-use Rattle.links.proofs.attached_fits.Lts as lts
-use Rattle.links.proofs.body_len.Reads as body-len-reads
 
 returns : tie.Need-returns
 returns c = in-header (c .before .before .before .args .p) (c .before .if1 .taken)

@@ -2,9 +2,6 @@ use Rattle.links.proofs.Fits.{body-out, body-in}
 use borrow.Author.Needs.{needs}
 use Rattle.links.proofs.body_len.Statement.{statement}
 use Rattle.links.proofs.body_len.Tie as tie
-use Rattle.links.proofs.body_len.Reads as reads
-use Rattle.links.proofs.body_len.Lts as lts
-use Rattle.messages.proofs.message.read_submit.Reads as read-submit-reads
 
 read-submit-requires : tie.Need-read-submit-requires
 read-submit-requires c κs = search needs

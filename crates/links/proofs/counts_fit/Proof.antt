@@ -5,8 +5,6 @@ use borrow.Author.Tests.{lt-leb}
 use native.Mathlib.Omega.{arith}
 use Rattle.links.proofs.counts_fit.Statement.{statement}
 use Rattle.links.proofs.counts_fit.Tie as tie
-use Rattle.links.proofs.counts_fit.Reads as reads
-use Rattle.links.proofs.counts_fit.Lts as lts
 
 returns : tie.Need-returns
 returns c = rw (lt-leb _ _ (c .if1 .taken))

@@ -3,10 +3,6 @@ use mathlib.Core.Bool.{true}
 use borrow.Author.Needs.{needs}
 use Rattle.links.proofs.phase_of.Statement.{statement}
 use Rattle.links.proofs.phase_of.Tie as tie
-use Rattle.links.proofs.phase_of.Reads as reads
-use Rattle.links.proofs.phase_of.Lts as lts
-use Rattle.links.proofs.counts_fit.Reads as counts-fit-reads
-use Rattle.links.proofs.progress_fits.Reads as progress-fits-reads
 
 counts-fit-requires : tie.Need-counts-fit-requires
 counts-fit-requires c κs = search needs

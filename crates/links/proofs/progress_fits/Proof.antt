@@ -2,10 +2,6 @@ use borrow.Author.Tests.{eq-eqb, ne-eqb}
 use borrow.Author.Needs.{needs}
 use Rattle.links.proofs.progress_fits.Statement.{statement}
 use Rattle.links.proofs.progress_fits.Tie as tie
-use Rattle.links.proofs.progress_fits.Reads as reads
-use Rattle.links.proofs.progress_fits.Lts as lts
-use Rattle.links.proofs.attached_fits.Reads as attached-fits-reads
-use Rattle.links.proofs.waiting_fits.Reads as waiting-fits-reads
 
 waiting-fits-requires : tie.Need-waiting-fits-requires
 waiting-fits-requires c κs = search needs

@@ -2,8 +2,6 @@ use borrow.Author.Tests.{lt-ltb, le-ltb}
 use borrow.Author.Needs.{needs}
 use Rattle.links.proofs.waiting_fits.Statement.{statement}
 use Rattle.links.proofs.waiting_fits.Tie as tie
-use Rattle.links.proofs.waiting_fits.Reads as reads
-use Rattle.links.proofs.waiting_fits.Lts as lts
 
 add-if1 : tie.Need-add-if1
 add-if1 c = search needs

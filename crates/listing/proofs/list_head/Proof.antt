@@ -1,10 +1,6 @@
 use borrow.Author.Needs.{needs}
 use Rattle.listing.proofs.list_head.Statement.{statement}
 use Rattle.listing.proofs.list_head.Tie as tie
-use Rattle.listing.proofs.list_head.Reads as reads
-use Rattle.listing.proofs.list_head.Lts as lts
-use Rattle.wire.proofs.number.bytes4.Reads as bytes4-reads
-use Rattle.messages.proofs.reply.reply_head.Reads as reply-head-reads
 
 reply-head-requires : tie.Need-reply-head-requires
 reply-head-requires c κs = search needs

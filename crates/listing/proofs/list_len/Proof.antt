@@ -1,11 +1,11 @@
 use Rattle.exports.specs.Rules.{every}
 use borrow.Author.Needs.{needs}
 use borrow.Author.Tests.{le-leb, lt-leb}
-use Prim.Native.Nat.{ℕ, _≤_, _-_, _+_, _*_}
+use Prim.Native.Nat.{_≤_, _-_, _+_, _*_}
 use native.Mathlib.Omega.{arith}
 use mathlib.Core.Path.{_≡_, refl, _∙_}
 use mathlib.Core.Bool.{true, false}
-use mathlib.Core.List.{List, [], _∷_}
+use mathlib.Core.List.{List, _∷_}
 use lib.ListN.{length, take, drop, getD, length-append}
 use Rattle.wire.specs.Fields.{joined}
 use Rattle.exports.specs.declared.device.Device.{Device}
@@ -14,9 +14,6 @@ use Rattle.listing.specs.Lists.{LIST-HEAD-LEN, few, listed, MAX-LISTED}
 use Rattle.exports.proofs.Walks.{next-of, over-of}
 use Rattle.listing.proofs.list_len.Statement.{statement}
 use Rattle.listing.proofs.list_len.Tie as tie
-use Rattle.listing.proofs.list_len.Reads as reads
-use Rattle.listing.proofs.list_len.Lts as lts
-use Rattle.listing.proofs.listed_len.Reads as listed-len-reads
 
 abbrev Inv-loop : tie.InvT-loop
 Inv-loop n devices len₀ i₀ len i =

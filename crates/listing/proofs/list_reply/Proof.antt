@@ -11,11 +11,6 @@ use Rattle.listing.proofs.Lists.{wrote-no-list, no-list-length, too-man
 use borrow.Author.Needs.{needs}
 use Rattle.listing.proofs.list_reply.Statement.{statement}
 use Rattle.listing.proofs.list_reply.Tie as tie
-use Rattle.listing.proofs.list_reply.Reads as reads
-use Rattle.listing.proofs.list_reply.Lts as lts
-use Rattle.listing.proofs.list_len.Reads as list-len-reads
-use Rattle.records.proofs.interface.table_interfaces.Reads as table-interfaces-reads
-use Rattle.listing.proofs.write_list.Reads as write-list-reads
 
 -- what the length says, where the table has a reply
 known : (c : tie.Else2) → let t = c .before .before .before .before .before .args .table in

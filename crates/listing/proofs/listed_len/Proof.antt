@@ -6,8 +6,6 @@ use Rattle.listing.proofs.Lists.{listed-length}
 use borrow.Author.Needs.{needs}
 use Rattle.listing.proofs.listed_len.Statement.{statement}
 use Rattle.listing.proofs.listed_len.Tie as tie
-use Rattle.listing.proofs.listed_len.Reads as reads
-use Rattle.listing.proofs.listed_len.Lts as lts
 
 shaped : (c : tie.Start) → Shaped (c .args .d)
 shaped c = search (unmapped, needs)

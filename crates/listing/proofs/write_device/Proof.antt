@@ -1,6 +1,6 @@
 use Prim.Native.Nat.{_≤_}
 use native.Mathlib.Omega.{arith}
-use mathlib.Core.Path.{_≡_, refl, sym, _∙_}
+use mathlib.Core.Path.{_≡_, refl, sym}
 use lib.ListN.{length, take, length-take, length-drop}
 use Rattle.wire.specs.Fields.{joined}
 use Rattle.wire.proofs.Parts.{wrote-all, written-behind}
@@ -12,10 +12,6 @@ use Rattle.listing.proofs.Lists.{listed-length}
 use borrow.Author.Needs.{needs}
 use Rattle.listing.proofs.write_device.Statement.{statement}
 use Rattle.listing.proofs.write_device.Tie as tie
-use Rattle.listing.proofs.write_device.Reads as reads
-use Rattle.listing.proofs.write_device.Lts as lts
-use Rattle.listing.proofs.interfaces.write_interfaces.Reads as write-interfaces-reads
-use Rattle.records.proofs.record.write_record.Reads as write-record-reads
 
 shaped : (c : tie.Start) → Shaped (c .args .d)
 shaped c = search (unmapped, needs)

@@ -2,7 +2,7 @@ use Rattle.exports.specs.Rules.{every}
 use borrow.Author.Needs.{needs}
 use borrow.Author.Tests.{leb-true}
 use borrow.Rule.Slice.PartMut.{same-len-mid}
-use Prim.Native.Nat.{ℕ, _≤_, _<_, _-_, _+_, _*_}
+use Prim.Native.Nat.{ℕ, _≤_, _-_, _+_}
 use native.Mathlib.Omega.{arith}
 use mathlib.Core.Path.{_≡_, refl, sym, ap, subst, _∙_}
 use mathlib.Core.List.{List, [], _∷_, _++_, append-nil, append-assoc}
@@ -20,11 +20,6 @@ use Rattle.exports.proofs.Walks.{next-of}
 use Rattle.listing.proofs.Lists.{every-left}
 use Rattle.listing.proofs.write_list.Statement.{statement}
 use Rattle.listing.proofs.write_list.Tie as tie
-use Rattle.listing.proofs.write_list.Reads as reads
-use Rattle.listing.proofs.write_list.Lts as lts
-use Rattle.listing.proofs.list_head.Reads as list-head-reads
-use Rattle.listing.proofs.write_device.Reads as write-device-reads
-use Rattle.wire.proofs.writing.write.Reads as write-reads
 
 abbrev Inv-loop : tie.InvT-loop
 Inv-loop reply₀ n devices interfaces at₀ i₀ reply at i =

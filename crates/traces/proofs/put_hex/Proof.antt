@@ -5,11 +5,6 @@ use Rattle.traces.proofs.Fields.{hex-none, hex-some}
 use borrow.Author.Needs.{needs}
 use Rattle.traces.proofs.put_hex.Statement.{statement}
 use Rattle.traces.proofs.put_hex.Tie as tie
-use Rattle.traces.proofs.put_hex.Reads as reads
-use Rattle.traces.proofs.put_hex.Lts as lts
-use Rattle.numerals.proofs.text.added.Reads as added-reads
-use Rattle.numerals.proofs.text.put.Reads as put-reads
-use Rattle.numerals.proofs.text.put_bytes.Reads as put-bytes-reads
 
 slice-aggregate-added : tie.Need-slice-aggregate-added
 slice-aggregate-added c = search needs

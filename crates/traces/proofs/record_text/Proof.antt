@@ -2,11 +2,6 @@ use native.Mathlib.Omega.{arith}
 use borrow.Author.Needs.{needs}
 use Rattle.traces.proofs.record_text.Statement.{statement}
 use Rattle.traces.proofs.record_text.Tie as tie
-use Rattle.traces.proofs.record_text.Reads as reads
-use Rattle.traces.proofs.record_text.Lts as lts
-use Rattle.numerals.proofs.text.begun.Reads as begun-reads
-use Rattle.numerals.proofs.text.with_number.Reads as with-number-reads
-use Rattle.traces.proofs.with_four.Reads as with-four-reads
 
 slice-aggregate-begun : tie.Need-slice-aggregate-begun
 slice-aggregate-begun c = search needs

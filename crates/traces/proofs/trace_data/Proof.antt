@@ -1,10 +1,6 @@
 use borrow.Author.Needs.{needs}
 use Rattle.traces.proofs.trace_data.Statement.{statement}
 use Rattle.traces.proofs.trace_data.Tie as tie
-use Rattle.traces.proofs.trace_data.Reads as reads
-use Rattle.traces.proofs.trace_data.Lts as lts
-use Rattle.numerals.proofs.text.begun.Reads as begun-reads
-use Rattle.traces.proofs.put_hex.Reads as put-hex-reads
 
 slice-aggregate-begun : tie.Need-slice-aggregate-begun
 slice-aggregate-begun c = search needs

@@ -1,11 +1,6 @@
 use borrow.Author.Needs.{needs}
 use Rattle.traces.proofs.trace_feed.Statement.{statement}
 use Rattle.traces.proofs.trace_feed.Tie as tie
-use Rattle.traces.proofs.trace_feed.Reads as reads
-use Rattle.traces.proofs.trace_feed.Lts as lts
-use Rattle.numerals.proofs.text.begun.Reads as begun-reads
-use Rattle.numerals.proofs.text.with_number.Reads as with-number-reads
-use Rattle.traces.proofs.put_hex.Reads as put-hex-reads
 
 slice-aggregate-begun : tie.Need-slice-aggregate-begun
 slice-aggregate-begun c = search needs

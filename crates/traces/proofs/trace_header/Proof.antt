@@ -7,12 +7,6 @@ use Rattle.numerals.specs.Digits.{numeral, digits}
 use borrow.Author.Needs.{needs}
 use Rattle.traces.proofs.trace_header.Statement.{statement}
 use Rattle.traces.proofs.trace_header.Tie as tie
-use Rattle.traces.proofs.trace_header.Reads as reads
-use Rattle.traces.proofs.trace_header.Lts as lts
-use Rattle.numerals.proofs.text.begun.Reads as begun-reads
-use Rattle.numerals.proofs.text.with_number.Reads as with-number-reads
-use Rattle.traces.proofs.put_hex.Reads as put-hex-reads
-use Rattle.wire.proofs.writing.write.Reads as write-reads
 
 enum-known-answer : tie.Need-enum-known-answer
 enum-known-answer c = search needs

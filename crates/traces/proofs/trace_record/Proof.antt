@@ -1,10 +1,6 @@
 use borrow.Author.Needs.{needs}
 use Rattle.traces.proofs.trace_record.Statement.{statement}
 use Rattle.traces.proofs.trace_record.Tie as tie
-use Rattle.traces.proofs.trace_record.Reads as reads
-use Rattle.traces.proofs.trace_record.Lts as lts
-use Rattle.traces.proofs.put_hex.Reads as put-hex-reads
-use Rattle.traces.proofs.record_text.Reads as record-text-reads
 
 record-text-requires : tie.Need-record-text-requires
 record-text-requires c κs = search needs

@@ -1,13 +1,6 @@
 use borrow.Author.Needs.{needs}
 use Rattle.traces.proofs.trace_removed.Statement.{statement}
 use Rattle.traces.proofs.trace_removed.Tie as tie
-use Rattle.traces.proofs.trace_removed.Reads as reads
-use Rattle.traces.proofs.trace_removed.Lts as lts
-use Rattle.numerals.proofs.text.begun.Reads as begun-reads
-use Rattle.numerals.proofs.text.ended.Reads as ended-reads
-use Rattle.numerals.proofs.text.put.Reads as put-reads
-use Rattle.numerals.proofs.text.with_number.Reads as with-number-reads
-use Rattle.wire.proofs.writing.write.Reads as write-reads
 
 enum-known-r : tie.Need-enum-known-r
 enum-known-r c = search needs

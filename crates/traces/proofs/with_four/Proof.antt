@@ -2,9 +2,6 @@ use native.Mathlib.Omega.{arith}
 use borrow.Author.Needs.{needs}
 use Rattle.traces.proofs.with_four.Statement.{statement}
 use Rattle.traces.proofs.with_four.Tie as tie
-use Rattle.traces.proofs.with_four.Reads as reads
-use Rattle.traces.proofs.with_four.Lts as lts
-use Rattle.numerals.proofs.text.with_number.Reads as with-number-reads
 
 with-number-requires : tie.Need-with-number-requires
 with-number-requires c κs = search needs

@@ -4,8 +4,6 @@ use lib.ListN.{length}
 use borrow.Author.Needs.{needs}
 use Rattle.console.proofs.input.move_front.Statement.{statement}
 use Rattle.console.proofs.input.move_front.Tie as tie
-use Rattle.console.proofs.input.move_front.Reads as reads
-use Rattle.console.proofs.input.move_front.Lts as lts
 
 abbrev Inv-loop : tie.InvT-loop
 Inv-loop buf₀ at n i₀ buf i = (i ≤ n) × (length buf ≡ length buf₀)

@@ -16,11 +16,6 @@ use mathlib.Core.Path.{_≡_, refl, ap, sym, _∙_}
 use borrow.Author.Needs.{needs}
 use Rattle.events.proofs.event.accepted.Statement.{statement}
 use Rattle.events.proofs.event.accepted.Tie as tie
-use Rattle.events.proofs.event.accepted.Reads as reads
-use Rattle.events.proofs.event.accepted.Lts as lts
-use Rattle.events.proofs.event.resting_link.Reads as resting-link-reads
-use Rattle.events.proofs.event.transfer_of.Reads as transfer-of-reads
-use Rattle.events.proofs.plan.plain_plan.Reads as plain-plan-reads
 
 add-ticket : tie.Need-add-ticket
 add-ticket c = search needs

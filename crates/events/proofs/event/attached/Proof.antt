@@ -9,10 +9,6 @@ use mathlib.Core.Path.{refl, ap, _∙_}
 use borrow.Author.Needs.{needs}
 use Rattle.events.proofs.event.attached.Statement.{statement}
 use Rattle.events.proofs.event.attached.Tie as tie
-use Rattle.events.proofs.event.attached.Reads as reads
-use Rattle.events.proofs.event.attached.Lts as lts
-use Rattle.events.proofs.event.resting_link.Reads as resting-link-reads
-use Rattle.events.proofs.plan.plain_plan.Reads as plain-plan-reads
 
 cast-devid : tie.Need-cast-devid
 cast-devid c = search needs

@@ -15,10 +15,6 @@ use mathlib.Core.Path.{refl, ap, sym, _∙_}
 use borrow.Author.Needs.{needs}
 use Rattle.events.proofs.event.broken.Statement.{statement}
 use Rattle.events.proofs.event.broken.Tie as tie
-use Rattle.events.proofs.event.broken.Reads as reads
-use Rattle.events.proofs.event.broken.Lts as lts
-use Rattle.events.proofs.event.ended.Reads as ended-reads
-use Rattle.events.proofs.plan.plain_plan.Reads as plain-plan-reads
 
 ended-requires : tie.Need-ended-requires
 ended-requires c κs = search needs

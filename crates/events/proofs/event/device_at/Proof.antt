@@ -7,8 +7,6 @@ use mathlib.Core.Path.{_≡_}
 use native.Mathlib.Omega.{arith}
 use Rattle.events.proofs.event.device_at.Statement.{statement}
 use Rattle.events.proofs.event.device_at.Tie as tie
-use Rattle.events.proofs.event.device_at.Reads as reads
-use Rattle.events.proofs.event.device_at.Lts as lts
 
 whole : (c : tie.Start) → length (c .args .table .devices) ≡ MAX-DEVICES
 whole c = search (unmapped, needs)

@@ -9,10 +9,6 @@ use mathlib.Core.Path.{ap, _∙_}
 use borrow.Author.Needs.{needs}
 use Rattle.events.proofs.event.ended.Statement.{statement}
 use Rattle.events.proofs.event.ended.Tie as tie
-use Rattle.events.proofs.event.ended.Reads as reads
-use Rattle.events.proofs.event.ended.Lts as lts
-use Rattle.events.proofs.event.counted.Reads as counted-reads
-use Rattle.events.proofs.event.resting_link.Reads as resting-link-reads
 
 accepted-fits : (c : tie.Start) → Fits w64 (c .args .old .counts .accepted)
 accepted-fits c = search needs

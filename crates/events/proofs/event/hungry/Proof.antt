@@ -9,9 +9,6 @@ use mathlib.Core.Path.{refl}
 use borrow.Author.Needs.{needs}
 use Rattle.events.proofs.event.hungry.Statement.{statement}
 use Rattle.events.proofs.event.hungry.Tie as tie
-use Rattle.events.proofs.event.hungry.Reads as reads
-use Rattle.events.proofs.event.hungry.Lts as lts
-use Rattle.events.proofs.plan.plain_plan.Reads as plain-plan-reads
 
 plain-plan-requires : tie.Need-plain-plan-requires
 plain-plan-requires c κs = search needs

@@ -5,13 +5,6 @@ use mathlib.Core.Path.{sym, _∙_}
 use borrow.Author.Needs.{needs}
 use Rattle.events.proofs.event.imported.Statement.{statement}
 use Rattle.events.proofs.event.imported.Tie as tie
-use Rattle.events.proofs.event.imported.Reads as reads
-use Rattle.events.proofs.event.imported.Lts as lts
-use Rattle.lookup.proofs.find.Reads as find-reads
-use Rattle.messages.proofs.request.read_busid.Reads as read-busid-reads
-use Rattle.events.proofs.event.attached.Reads as attached-reads
-use Rattle.events.proofs.event.device_at.Reads as device-at-reads
-use Rattle.events.proofs.event.unknown.Reads as unknown-reads
 
 read-busid-requires : tie.Need-read-busid-requires
 read-busid-requires c κs = search needs

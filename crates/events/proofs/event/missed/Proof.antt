@@ -11,10 +11,6 @@ use mathlib.Core.Path.{refl, ap, _∙_}
 use borrow.Author.Needs.{needs}
 use Rattle.events.proofs.event.missed.Statement.{statement}
 use Rattle.events.proofs.event.missed.Tie as tie
-use Rattle.events.proofs.event.missed.Reads as reads
-use Rattle.events.proofs.event.missed.Lts as lts
-use Rattle.events.proofs.event.resting_link.Reads as resting-link-reads
-use Rattle.events.proofs.plan.plain_plan.Reads as plain-plan-reads
 
 resting-link-requires : tie.Need-resting-link-requires
 resting-link-requires c κs = search needs

@@ -3,9 +3,6 @@ use mathlib.Core.Path.{sym, _∙_}
 use borrow.Author.Needs.{needs}
 use Rattle.events.proofs.event.place_of.Statement.{statement}
 use Rattle.events.proofs.event.place_of.Tie as tie
-use Rattle.events.proofs.event.place_of.Reads as reads
-use Rattle.events.proofs.event.place_of.Lts as lts
-use Rattle.pending.proofs.list.Pending.find_ticket.Reads as find-ticket-reads
 
 find-ticket-requires : tie.Need-find-ticket-requires
 find-ticket-requires c κs = search needs

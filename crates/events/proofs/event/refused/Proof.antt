@@ -8,9 +8,6 @@ use mathlib.Core.Path.{refl}
 use borrow.Author.Needs.{needs}
 use Rattle.events.proofs.event.refused.Statement.{statement}
 use Rattle.events.proofs.event.refused.Tie as tie
-use Rattle.events.proofs.event.refused.Reads as reads
-use Rattle.events.proofs.event.refused.Lts as lts
-use Rattle.events.proofs.plan.plain_plan.Reads as plain-plan-reads
 
 plain-plan-requires : tie.Need-plain-plan-requires
 plain-plan-requires c κs = search needs

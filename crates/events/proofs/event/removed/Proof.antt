@@ -23,11 +23,6 @@ use mathlib.Core.Path.{refl, ap, _∙_}
 use borrow.Author.Needs.{needs}
 use Rattle.events.proofs.event.removed.Statement.{statement}
 use Rattle.events.proofs.event.removed.Tie as tie
-use Rattle.events.proofs.event.removed.Reads as reads
-use Rattle.events.proofs.event.removed.Lts as lts
-use Rattle.events.proofs.event.counted.Reads as counted-reads
-use Rattle.events.proofs.event.resting_link.Reads as resting-link-reads
-use Rattle.events.proofs.plan.plain_plan.Reads as plain-plan-reads
 
 accepted-fits : (c : tie.Start) → Fits w64 (c .args .old .counts .accepted)
 accepted-fits c = search needs

@@ -1,9 +1,6 @@
 use borrow.Author.Needs.{needs}
 use Rattle.events.proofs.event.resting_link.Statement.{statement}
 use Rattle.events.proofs.event.resting_link.Tie as tie
-use Rattle.events.proofs.event.resting_link.Reads as reads
-use Rattle.events.proofs.event.resting_link.Lts as lts
-use Rattle.events.proofs.event.no_progress.Reads as no-progress-reads
 
 no-progress-requires : tie.Need-no-progress-requires
 no-progress-requires c κs = search needs

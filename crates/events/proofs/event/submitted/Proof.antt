@@ -11,12 +11,6 @@ use native.Mathlib.Omega.{arith}
 use borrow.Author.Needs.{needs}
 use Rattle.events.proofs.event.submitted.Statement.{statement}
 use Rattle.events.proofs.event.submitted.Tie as tie
-use Rattle.events.proofs.event.submitted.Reads as reads
-use Rattle.events.proofs.event.submitted.Lts as lts
-use Rattle.messages.proofs.message.read_submit.Reads as read-submit-reads
-use Rattle.events.proofs.event.accepted.Reads as accepted-reads
-use Rattle.events.proofs.event.answered.Reads as answered-reads
-use Rattle.verdicts.proofs.verdict.submit_verdict.Reads as submit-verdict-reads
 
 full : (c : tie.Start) → length (c .args .head) ≡ HEADER-LEN
 full c = search needs

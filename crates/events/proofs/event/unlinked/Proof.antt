@@ -6,14 +6,6 @@ use mathlib.Core.Path.{_≡_, sym, _∙_}
 use borrow.Author.Needs.{needs}
 use Rattle.events.proofs.event.unlinked.Statement.{statement}
 use Rattle.events.proofs.event.unlinked.Tie as tie
-use Rattle.events.proofs.event.unlinked.Reads as reads
-use Rattle.events.proofs.event.unlinked.Lts as lts
-use Rattle.messages.proofs.message.read_unlink.Reads as read-unlink-reads
-use Rattle.pending.proofs.list.Pending.at.Reads as at-reads
-use Rattle.pending.proofs.list.Pending.find_seqnum.Reads as find-seqnum-reads
-use Rattle.events.proofs.event.missed.Reads as missed-reads
-use Rattle.events.proofs.event.place_of.Reads as place-of-reads
-use Rattle.events.proofs.event.removed.Reads as removed-reads
 
 whole-list : (c : tie.Start) → length (c .args .list .urbs) ≡ MAX-PENDING
 whole-list c = search (unmapped, needs)

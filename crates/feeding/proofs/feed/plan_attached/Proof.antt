@@ -9,10 +9,6 @@ use mathlib.Core.Path.{_≡_, refl}
 use borrow.Author.Needs.{needs}
 use Rattle.feeding.proofs.feed.plan_attached.Statement.{statement}
 use Rattle.feeding.proofs.feed.plan_attached.Tie as tie
-use Rattle.feeding.proofs.feed.plan_attached.Reads as reads
-use Rattle.feeding.proofs.feed.plan_attached.Lts as lts
-use Rattle.feeding.proofs.stream.feed_body.Reads as feed-body-reads
-use Rattle.feeding.proofs.stream.feed_header.Reads as feed-header-reads
 
 whole-list : (c : tie.Start) → length (c .args .list .urbs) ≡ MAX-PENDING
 whole-list c = search (unmapped, needs)

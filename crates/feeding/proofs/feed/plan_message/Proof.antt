@@ -8,12 +8,6 @@ use mathlib.Core.Path.{refl}
 use borrow.Author.Needs.{needs}
 use Rattle.feeding.proofs.feed.plan_message.Statement.{statement}
 use Rattle.feeding.proofs.feed.plan_message.Tie as tie
-use Rattle.feeding.proofs.feed.plan_message.Reads as reads
-use Rattle.feeding.proofs.feed.plan_message.Lts as lts
-use Rattle.events.proofs.event.refused.Reads as refused-reads
-use Rattle.feeding.proofs.feed.plan_attached.Reads as plan-attached-reads
-use Rattle.links.proofs.phase_of.Reads as phase-of-reads
-use Rattle.verdicts.proofs.verdict.feed_verdict.Reads as feed-verdict-reads
 
 phase-of-requires : tie.Need-phase-of-requires
 phase-of-requires c κs = search needs

@@ -10,12 +10,6 @@ use Prim.Native.Nat.{ℕ}
 use borrow.Author.Needs.{needs}
 use Rattle.feeding.proofs.feed.plan_request.Statement.{statement}
 use Rattle.feeding.proofs.feed.plan_request.Tie as tie
-use Rattle.feeding.proofs.feed.plan_request.Reads as reads
-use Rattle.feeding.proofs.feed.plan_request.Lts as lts
-use Rattle.events.proofs.event.refused.Reads as refused-reads
-use Rattle.feeding.proofs.feed.plan_waiting.Reads as plan-waiting-reads
-use Rattle.links.proofs.phase_of.Reads as phase-of-reads
-use Rattle.verdicts.proofs.verdict.feed_verdict.Reads as feed-verdict-reads
 
 phase-of-requires : tie.Need-phase-of-requires
 phase-of-requires c κs = search needs

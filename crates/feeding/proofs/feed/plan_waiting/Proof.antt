@@ -5,10 +5,6 @@ use mathlib.Core.Path.{ap, _∙_}
 use borrow.Author.Needs.{needs}
 use Rattle.feeding.proofs.feed.plan_waiting.Statement.{statement}
 use Rattle.feeding.proofs.feed.plan_waiting.Tie as tie
-use Rattle.feeding.proofs.feed.plan_waiting.Reads as reads
-use Rattle.feeding.proofs.feed.plan_waiting.Lts as lts
-use Rattle.feeding.proofs.stream.feed_import.Reads as feed-import-reads
-use Rattle.feeding.proofs.stream.feed_request.Reads as feed-request-reads
 
 feed-request-requires : tie.Need-feed-request-requires
 feed-request-requires c κs =

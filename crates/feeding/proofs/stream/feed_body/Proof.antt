@@ -18,11 +18,6 @@ use Prim.Native.Nat.{_+_, _-_, _≤_}
 use borrow.Author.Needs.{needs}
 use Rattle.feeding.proofs.stream.feed_body.Statement.{statement}
 use Rattle.feeding.proofs.stream.feed_body.Tie as tie
-use Rattle.feeding.proofs.stream.feed_body.Reads as reads
-use Rattle.feeding.proofs.stream.feed_body.Lts as lts
-use Rattle.events.proofs.event.hungry.Reads as hungry-reads
-use Rattle.events.proofs.event.submitted.Reads as submitted-reads
-use Rattle.links.proofs.body_len.Reads as body-len-reads
 
 full : (c : tie.Start) → length (c .args .p .head) ≡ HEADER-LEN
 full c = search (unmapped, needs)

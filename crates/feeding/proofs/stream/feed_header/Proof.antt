@@ -15,17 +15,6 @@ use Prim.Native.Nat.{_-_, _≤_}
 use borrow.Author.Needs.{needs}
 use Rattle.feeding.proofs.stream.feed_header.Statement.{statement}
 use Rattle.feeding.proofs.stream.feed_header.Tie as tie
-use Rattle.feeding.proofs.stream.feed_header.Reads as reads
-use Rattle.feeding.proofs.stream.feed_header.Lts as lts
-use Rattle.messages.proofs.message.read_command.Reads as read-command-reads
-use Rattle.events.proofs.event.broken.Reads as broken-reads
-use Rattle.events.proofs.event.hungry.Reads as hungry-reads
-use Rattle.events.proofs.event.submitted.Reads as submitted-reads
-use Rattle.events.proofs.event.unlinked.Reads as unlinked-reads
-use Rattle.links.proofs.body_len.Reads as body-len-reads
-use Rattle.feeding.proofs.stream.feed_body.Reads as feed-body-reads
-use Rattle.feeding.proofs.stream.grown.Reads as grown-reads
-use Rattle.feeding.proofs.stream.header_verdict.Reads as header-verdict-reads
 
 full : (c : tie.Start) → length (c .args .link .progress .head) ≡ HEADER-LEN
 full c = search (unmapped, needs)

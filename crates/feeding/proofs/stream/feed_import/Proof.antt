@@ -12,11 +12,6 @@ use Prim.Native.Nat.{_+_, _-_, _≤_}
 use borrow.Author.Needs.{needs}
 use Rattle.feeding.proofs.stream.feed_import.Statement.{statement}
 use Rattle.feeding.proofs.stream.feed_import.Tie as tie
-use Rattle.feeding.proofs.stream.feed_import.Reads as reads
-use Rattle.feeding.proofs.stream.feed_import.Lts as lts
-use Rattle.events.proofs.event.hungry.Reads as hungry-reads
-use Rattle.events.proofs.event.imported.Reads as imported-reads
-use Rattle.feeding.proofs.stream.grown.Reads as grown-reads
 
 full : (c : tie.Start) → length (c .args .p .head) ≡ HEADER-LEN
 full c = search (unmapped, needs)

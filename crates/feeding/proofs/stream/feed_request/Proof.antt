@@ -13,15 +13,6 @@ use Prim.Native.Nat.{_-_, _≤_}
 use borrow.Author.Needs.{needs}
 use Rattle.feeding.proofs.stream.feed_request.Statement.{statement}
 use Rattle.feeding.proofs.stream.feed_request.Tie as tie
-use Rattle.feeding.proofs.stream.feed_request.Reads as reads
-use Rattle.feeding.proofs.stream.feed_request.Lts as lts
-use Rattle.messages.proofs.request.read_request.Reads as read-request-reads
-use Rattle.events.proofs.event.broken.Reads as broken-reads
-use Rattle.events.proofs.event.hungry.Reads as hungry-reads
-use Rattle.events.proofs.event.listed.Reads as listed-reads
-use Rattle.feeding.proofs.stream.feed_import.Reads as feed-import-reads
-use Rattle.feeding.proofs.stream.grown.Reads as grown-reads
-use Rattle.verdicts.proofs.verdict.request_verdict.Reads as request-verdict-reads
 
 full : (c : tie.Start) → length (c .args .link .progress .head) ≡ HEADER-LEN
 full c = search (unmapped, needs)

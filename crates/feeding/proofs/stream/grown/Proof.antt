@@ -11,9 +11,6 @@ use native.Mathlib.Omega.{arith}
 use borrow.Author.Needs.{needs}
 use Rattle.feeding.proofs.stream.grown.Statement.{statement}
 use Rattle.feeding.proofs.stream.grown.Tie as tie
-use Rattle.feeding.proofs.stream.grown.Reads as reads
-use Rattle.feeding.proofs.stream.grown.Lts as lts
-use Rattle.wire.proofs.writing.write.Reads as write-reads
 
 full : (c : tie.Start) → length (c .args .p .head) ≡ HEADER-LEN
 full c = search (unmapped, needs)

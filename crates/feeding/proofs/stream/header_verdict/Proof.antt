@@ -7,12 +7,6 @@ use mathlib.Core.Path.{ap, _∙_}
 use borrow.Author.Needs.{needs}
 use Rattle.feeding.proofs.stream.header_verdict.Statement.{statement}
 use Rattle.feeding.proofs.stream.header_verdict.Tie as tie
-use Rattle.feeding.proofs.stream.header_verdict.Reads as reads
-use Rattle.feeding.proofs.stream.header_verdict.Lts as lts
-use Rattle.messages.proofs.message.read_command.Reads as read-command-reads
-use Rattle.messages.proofs.message.read_submit.Reads as read-submit-reads
-use Rattle.feeding.proofs.stream.is_pending.Reads as is-pending-reads
-use Rattle.verdicts.proofs.verdict.message_verdict.Reads as message-verdict-reads
 
 read-command-requires : tie.Need-read-command-requires
 read-command-requires c κs = search needs

@@ -4,9 +4,6 @@ use mathlib.Core.Path.{sym, _∙_}
 use borrow.Author.Needs.{needs}
 use Rattle.feeding.proofs.stream.is_pending.Statement.{statement}
 use Rattle.feeding.proofs.stream.is_pending.Tie as tie
-use Rattle.feeding.proofs.stream.is_pending.Reads as reads
-use Rattle.feeding.proofs.stream.is_pending.Lts as lts
-use Rattle.pending.proofs.list.Pending.find_seqnum.Reads as find-seqnum-reads
 
 find-seqnum-requires : tie.Need-find-seqnum-requires
 find-seqnum-requires c κs = search needs

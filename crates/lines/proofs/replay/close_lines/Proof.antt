@@ -1,12 +1,6 @@
 use borrow.Author.Needs.{needs}
 use Rattle.lines.proofs.replay.close_lines.Statement.{statement}
 use Rattle.lines.proofs.replay.close_lines.Tie as tie
-use Rattle.lines.proofs.replay.close_lines.Reads as reads
-use Rattle.lines.proofs.replay.close_lines.Lts as lts
-use Rattle.lines.proofs.replay.number_line.Reads as number-line-reads
-use Rattle.lines.proofs.replay.with_dropped.Reads as with-dropped-reads
-use Rattle.lines.proofs.replay.word_line.Reads as word-line-reads
-use Rattle.numerals.proofs.text.put.Reads as put-reads
 
 enum-told : tie.Need-enum-told
 enum-told c = search needs

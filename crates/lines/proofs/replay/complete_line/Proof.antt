@@ -1,11 +1,6 @@
 use borrow.Author.Needs.{needs}
 use Rattle.lines.proofs.replay.complete_line.Statement.{statement}
 use Rattle.lines.proofs.replay.complete_line.Tie as tie
-use Rattle.lines.proofs.replay.complete_line.Reads as reads
-use Rattle.lines.proofs.replay.complete_line.Lts as lts
-use Rattle.lines.proofs.replay.number_line.Reads as number-line-reads
-use Rattle.lines.proofs.replay.return_line.Reads as return-line-reads
-use Rattle.numerals.proofs.text.put.Reads as put-reads
 
 enum-told : tie.Need-enum-told
 enum-told c = search needs

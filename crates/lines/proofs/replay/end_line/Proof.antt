@@ -1,12 +1,6 @@
 use borrow.Author.Needs.{needs}
 use Rattle.lines.proofs.replay.end_line.Statement.{statement}
 use Rattle.lines.proofs.replay.end_line.Tie as tie
-use Rattle.lines.proofs.replay.end_line.Reads as reads
-use Rattle.lines.proofs.replay.end_line.Lts as lts
-use Rattle.numerals.proofs.text.begun.Reads as begun-reads
-use Rattle.numerals.proofs.text.ended.Reads as ended-reads
-use Rattle.numerals.proofs.text.put.Reads as put-reads
-use Rattle.numerals.proofs.text.with_number.Reads as with-number-reads
 
 slice-aggregate-begun : tie.Need-slice-aggregate-begun
 slice-aggregate-begun c = search needs

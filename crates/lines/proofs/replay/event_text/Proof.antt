@@ -4,14 +4,6 @@ use Rattle.lines.proofs.Lines.{unlink-lines}
 use borrow.Author.Needs.{needs}
 use Rattle.lines.proofs.replay.event_text.Statement.{statement}
 use Rattle.lines.proofs.replay.event_text.Tie as tie
-use Rattle.lines.proofs.replay.event_text.Reads as reads
-use Rattle.lines.proofs.replay.event_text.Lts as lts
-use Rattle.lines.proofs.replay.number_line.Reads as number-line-reads
-use Rattle.lines.proofs.replay.status_line.Reads as status-line-reads
-use Rattle.lines.proofs.replay.submit_line.Reads as submit-line-reads
-use Rattle.lines.proofs.replay.with_dropped.Reads as with-dropped-reads
-use Rattle.lines.proofs.replay.word_line.Reads as word-line-reads
-use Rattle.numerals.proofs.text.empty.Reads as empty-reads
 
 enum-told : tie.Need-enum-told
 enum-told c = search needs

@@ -2,10 +2,6 @@ use mathlib.Core.List.{[]}
 use borrow.Author.Needs.{needs}
 use Rattle.lines.proofs.replay.feed_lines.Statement.{statement}
 use Rattle.lines.proofs.replay.feed_lines.Tie as tie
-use Rattle.lines.proofs.replay.feed_lines.Reads as reads
-use Rattle.lines.proofs.replay.feed_lines.Lts as lts
-use Rattle.lines.proofs.replay.event_text.Reads as event-text-reads
-use Rattle.numerals.proofs.text.put.Reads as put-reads
 
 event-text-requires : tie.Need-event-text-requires
 event-text-requires c κs = search needs

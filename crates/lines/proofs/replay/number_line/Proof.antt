@@ -2,11 +2,6 @@ use native.Mathlib.Omega.{arith}
 use borrow.Author.Needs.{needs}
 use Rattle.lines.proofs.replay.number_line.Statement.{statement}
 use Rattle.lines.proofs.replay.number_line.Tie as tie
-use Rattle.lines.proofs.replay.number_line.Reads as reads
-use Rattle.lines.proofs.replay.number_line.Lts as lts
-use Rattle.numerals.proofs.text.begun.Reads as begun-reads
-use Rattle.numerals.proofs.text.ended.Reads as ended-reads
-use Rattle.numerals.proofs.text.with_number.Reads as with-number-reads
 
 begun-requires : tie.Need-begun-requires
 begun-requires c κs = search needs

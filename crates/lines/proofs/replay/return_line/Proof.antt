@@ -2,12 +2,6 @@ use native.Mathlib.Omega.{arith}
 use borrow.Author.Needs.{needs}
 use Rattle.lines.proofs.replay.return_line.Statement.{statement}
 use Rattle.lines.proofs.replay.return_line.Tie as tie
-use Rattle.lines.proofs.replay.return_line.Reads as reads
-use Rattle.lines.proofs.replay.return_line.Lts as lts
-use Rattle.numerals.proofs.text.begun.Reads as begun-reads
-use Rattle.numerals.proofs.text.ended.Reads as ended-reads
-use Rattle.numerals.proofs.text.with_number.Reads as with-number-reads
-use Rattle.numerals.proofs.text.with_status.Reads as with-status-reads
 
 slice-aggregate-begun : tie.Need-slice-aggregate-begun
 slice-aggregate-begun c = search needs

@@ -2,12 +2,6 @@ use native.Mathlib.Omega.{arith}
 use borrow.Author.Needs.{needs}
 use Rattle.lines.proofs.replay.status_line.Statement.{statement}
 use Rattle.lines.proofs.replay.status_line.Tie as tie
-use Rattle.lines.proofs.replay.status_line.Reads as reads
-use Rattle.lines.proofs.replay.status_line.Lts as lts
-use Rattle.numerals.proofs.text.begun.Reads as begun-reads
-use Rattle.numerals.proofs.text.ended.Reads as ended-reads
-use Rattle.numerals.proofs.text.with_number.Reads as with-number-reads
-use Rattle.numerals.proofs.text.with_status.Reads as with-status-reads
 
 begun-requires : tie.Need-begun-requires
 begun-requires c κs = search needs

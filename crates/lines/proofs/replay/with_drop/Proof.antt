@@ -6,11 +6,6 @@ use native.Mathlib.Omega.{arith}
 use borrow.Author.Needs.{needs}
 use Rattle.lines.proofs.replay.with_drop.Statement.{statement}
 use Rattle.lines.proofs.replay.with_drop.Tie as tie
-use Rattle.lines.proofs.replay.with_drop.Reads as reads
-use Rattle.lines.proofs.replay.with_drop.Lts as lts
-use Rattle.numerals.proofs.text.added.Reads as added-reads
-use Rattle.numerals.proofs.text.ended.Reads as ended-reads
-use Rattle.numerals.proofs.text.with_number.Reads as with-number-reads
 
 slice-aggregate-added : tie.Need-slice-aggregate-added
 slice-aggregate-added c = search needs

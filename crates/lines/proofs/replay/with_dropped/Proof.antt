@@ -6,9 +6,6 @@ use Rattle.pending.specs.Pending.{MAX-PENDING}
 use borrow.Author.Needs.{needs}
 use Rattle.lines.proofs.replay.with_dropped.Statement.{statement}
 use Rattle.lines.proofs.replay.with_dropped.Tie as tie
-use Rattle.lines.proofs.replay.with_dropped.Reads as reads
-use Rattle.lines.proofs.replay.with_dropped.Lts as lts
-use Rattle.lines.proofs.replay.with_drops.Reads as with-drops-reads
 
 whole : (c : tie.Start) → length (c .args .dropped .tickets) ≡ MAX-PENDING
 whole c = search needs

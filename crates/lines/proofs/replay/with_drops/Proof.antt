@@ -12,9 +12,6 @@ use Rattle.lines.specs.Lines.{dropped}
 use Rattle.numerals.proofs.Texts.{added-twice}
 use Rattle.lines.proofs.replay.with_drops.Statement.{statement}
 use Rattle.lines.proofs.replay.with_drops.Tie as tie
-use Rattle.lines.proofs.replay.with_drops.Reads as reads
-use Rattle.lines.proofs.replay.with_drops.Lts as lts
-use Rattle.lines.proofs.replay.with_drop.Reads as with-drop-reads
 
 abbrev Inv-loop : tie.InvT-loop
 Inv-loop n tickets text₀ i₀ text i = (i ≤ n) × Holds text (textOf text₀ ++ joined dropped (take i tickets)) (LINE-LEN + i * DROPPED-LEN)

@@ -2,10 +2,6 @@ use native.Mathlib.Omega.{arith}
 use borrow.Author.Needs.{needs}
 use Rattle.lines.proofs.replay.word_line.Statement.{statement}
 use Rattle.lines.proofs.replay.word_line.Tie as tie
-use Rattle.lines.proofs.replay.word_line.Reads as reads
-use Rattle.lines.proofs.replay.word_line.Lts as lts
-use Rattle.numerals.proofs.text.begun.Reads as begun-reads
-use Rattle.numerals.proofs.text.ended.Reads as ended-reads
 
 begun-requires : tie.Need-begun-requires
 begun-requires c κs = search needs

@@ -3,8 +3,8 @@ use borrow.Author.Needs.{needs}
 use Prim.Native.Nat.{ℕ, _≤_, _-_, _+_, _*_}
 use native.Mathlib.Omega.{arith}
 use mathlib.Core.Path.{_≡_, refl, _∙_}
-use mathlib.Core.List.{List, [], map, _++_}
-use lib.ListN.{length, take, drop, getD, length-append}
+use mathlib.Core.List.{List, [], _++_}
+use lib.ListN.{length, take, length-append}
 use borrow.Rule.Slice.PartMut.{same-len-mid}
 use Rattle.wire.proofs.Parts.{written-next, joined-more}
 use Rattle.wire.specs.Fields.{joined}
@@ -12,10 +12,6 @@ use Rattle.wire.specs.Writing.{over}
 use Rattle.exports.specs.Devices.{MAX-INTERFACES}
 use Rattle.listing.proofs.interfaces.write_interfaces.Statement.{statement}
 use Rattle.listing.proofs.interfaces.write_interfaces.Tie as tie
-use Rattle.listing.proofs.interfaces.write_interfaces.Reads as reads
-use Rattle.listing.proofs.interfaces.write_interfaces.Lts as lts
-use Rattle.listing.proofs.interfaces.interface_at.Reads as interface-at-reads
-use Rattle.wire.proofs.writing.write.Reads as write-reads
 
 abbrev Inv-loop : tie.InvT-loop
 Inv-loop out₀ records n i₀ out i = (i ≤ n) × (length (joined (λ r. r) (take i records)) ≡ i * INTERFACE-LEN) × (out ≡ over (joined (λ r. r) (take i records)) out₀) × (length out ≡ length out₀)

@@ -6,10 +6,6 @@ use Rattle.numerals.proofs.Texts.{part-end}
 use borrow.Author.Needs.{needs}
 use Rattle.numerals.proofs.number.decimal.Statement.{statement}
 use Rattle.numerals.proofs.number.decimal.Tie as tie
-use Rattle.numerals.proofs.number.decimal.Reads as reads
-use Rattle.numerals.proofs.number.decimal.Lts as lts
-use Rattle.numerals.proofs.number.digits.Reads as digits-reads
-use Rattle.wire.proofs.writing.write.Reads as write-reads
 
 full : (c : tie.After-digits) → length (c .digits .result .bytes) ≡ MAX-DIGITS
 full c = search needs

@@ -8,9 +8,6 @@ use Rattle.numerals.specs.Digits.{BASE, MAX-DIGITS, decimal}
 use Rattle.numerals.proofs.Digits.{numeral-most, numeral-longer, numeral-some, digit-more, digit-last}
 use Rattle.numerals.proofs.number.digits.Statement.{statement}
 use Rattle.numerals.proofs.number.digits.Tie as tie
-use Rattle.numerals.proofs.number.digits.Reads as reads
-use Rattle.numerals.proofs.number.digits.Lts as lts
-use Rattle.numerals.proofs.number.glyph.Reads as glyph-reads
 
 two : 2 ≤ BASE
 two = omega arith

@@ -2,8 +2,6 @@ use borrow.Author.Needs.{needs}
 use borrow.Author.Tests.{lt-ltb, le-ltb}
 use Rattle.numerals.proofs.number.glyph.Statement.{statement}
 use Rattle.numerals.proofs.number.glyph.Tie as tie
-use Rattle.numerals.proofs.number.glyph.Reads as reads
-use Rattle.numerals.proofs.number.glyph.Lts as lts
 
 add-result : tie.Need-add-result
 add-result c = search needs

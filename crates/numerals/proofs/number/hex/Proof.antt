@@ -8,9 +8,6 @@ use Rattle.numerals.proofs.Texts.{hex-length}
 use borrow.Author.Needs.{needs}
 use Rattle.numerals.proofs.number.hex.Statement.{statement}
 use Rattle.numerals.proofs.number.hex.Tie as tie
-use Rattle.numerals.proofs.number.hex.Reads as reads
-use Rattle.numerals.proofs.number.hex.Lts as lts
-use Rattle.numerals.proofs.number.write_hex.Reads as write-hex-reads
 
 returns : tie.Need-returns
 returns c =

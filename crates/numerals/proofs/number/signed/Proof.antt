@@ -1,11 +1,6 @@
 use borrow.Author.Needs.{needs}
 use Rattle.numerals.proofs.number.signed.Statement.{statement}
 use Rattle.numerals.proofs.number.signed.Tie as tie
-use Rattle.numerals.proofs.number.signed.Reads as reads
-use Rattle.numerals.proofs.number.signed.Lts as lts
-use Rattle.numerals.proofs.text.empty.Reads as empty-reads
-use Rattle.numerals.proofs.text.put.Reads as put-reads
-use Rattle.numerals.proofs.text.with_signed.Reads as with-signed-reads
 
 empty-requires : tie.Need-empty-requires
 empty-requires c κs = search needs

@@ -12,10 +12,6 @@ use Rattle.numerals.specs.Digits.{hexByte, hexOf}
 use Rattle.numerals.proofs.Texts.{hex-length}
 use Rattle.numerals.proofs.number.write_hex.Statement.{statement}
 use Rattle.numerals.proofs.number.write_hex.Tie as tie
-use Rattle.numerals.proofs.number.write_hex.Reads as reads
-use Rattle.numerals.proofs.number.write_hex.Lts as lts
-use Rattle.numerals.proofs.number.hex_pair.Reads as hex-pair-reads
-use Rattle.wire.proofs.writing.write.Reads as write-reads
 
 abbrev Inv-loop : tie.InvT-loop
 Inv-loop bytes out₀ i₀ out i = (i ≤ length bytes) × (out ≡ over (hexOf (take i bytes)) out₀) × (length out ≡ length out₀)

@@ -6,9 +6,6 @@ use Rattle.wire.proofs.Parts.{filled-front}
 use borrow.Author.Needs.{needs}
 use Rattle.numerals.proofs.text.added.Statement.{statement}
 use Rattle.numerals.proofs.text.added.Tie as tie
-use Rattle.numerals.proofs.text.added.Reads as reads
-use Rattle.numerals.proofs.text.added.Lts as lts
-use Rattle.wire.proofs.writing.write.Reads as write-reads
 
 full : (c : tie.Start) → length (c .args .t .bytes) ≡ TEXT-LEN
 full c = search needs

@@ -2,10 +2,6 @@ use native.Mathlib.Omega.{arith}
 use borrow.Author.Needs.{needs}
 use Rattle.numerals.proofs.text.begun.Statement.{statement}
 use Rattle.numerals.proofs.text.begun.Tie as tie
-use Rattle.numerals.proofs.text.begun.Reads as reads
-use Rattle.numerals.proofs.text.begun.Lts as lts
-use Rattle.numerals.proofs.text.added.Reads as added-reads
-use Rattle.numerals.proofs.text.empty.Reads as empty-reads
 
 empty-requires : tie.Need-empty-requires
 empty-requires c κs = search needs

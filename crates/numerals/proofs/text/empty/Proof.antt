@@ -3,8 +3,6 @@ use mathlib.Core.Path.{refl}
 use Rattle.numerals.specs.Texts.{textOf}
 use Rattle.numerals.proofs.text.empty.Statement.{statement}
 use Rattle.numerals.proofs.text.empty.Tie as tie
-use Rattle.numerals.proofs.text.empty.Reads as reads
-use Rattle.numerals.proofs.text.empty.Lts as lts
 
 returns : tie.Need-returns
 unfolding textOf

@@ -6,9 +6,6 @@ use Rattle.numerals.specs.Texts.{TEXT-LEN, textOf}
 use borrow.Author.Needs.{needs}
 use Rattle.numerals.proofs.text.put.Statement.{statement}
 use Rattle.numerals.proofs.text.put.Tie as tie
-use Rattle.numerals.proofs.text.put.Reads as reads
-use Rattle.numerals.proofs.text.put.Lts as lts
-use Rattle.wire.proofs.writing.write.Reads as write-reads
 
 full : (c : tie.Start) → length (c .args .t .bytes) ≡ TEXT-LEN
 full c = search needs

@@ -11,11 +11,6 @@ use Rattle.numerals.proofs.Texts.{text-length, hex-length}
 use borrow.Author.Needs.{needs}
 use Rattle.numerals.proofs.text.put_bytes.Statement.{statement}
 use Rattle.numerals.proofs.text.put_bytes.Tie as tie
-use Rattle.numerals.proofs.text.put_bytes.Reads as reads
-use Rattle.numerals.proofs.text.put_bytes.Lts as lts
-use Rattle.numerals.proofs.number.hex.Reads as hex-reads
-use Rattle.numerals.proofs.text.put.Reads as put-reads
-use Rattle.wire.proofs.writing.write.Reads as write-reads
 
 -- what is to be written, and how long it is
 abbrev text : tie.Start → List ℕ

@@ -7,10 +7,6 @@ use Rattle.numerals.proofs.Texts.{part-end}
 use borrow.Author.Needs.{needs}
 use Rattle.numerals.proofs.text.with_digits.Statement.{statement}
 use Rattle.numerals.proofs.text.with_digits.Tie as tie
-use Rattle.numerals.proofs.text.with_digits.Reads as reads
-use Rattle.numerals.proofs.text.with_digits.Lts as lts
-use Rattle.numerals.proofs.number.digits.Reads as digits-reads
-use Rattle.numerals.proofs.text.added.Reads as added-reads
 
 full : (c : tie.After-digits) → length (c .digits .result .bytes) ≡ MAX-DIGITS
 full c = search needs

@@ -5,10 +5,6 @@ use Rattle.numerals.proofs.Texts.{added-twice}
 use borrow.Author.Needs.{needs}
 use Rattle.numerals.proofs.text.with_number.Statement.{statement}
 use Rattle.numerals.proofs.text.with_number.Tie as tie
-use Rattle.numerals.proofs.text.with_number.Reads as reads
-use Rattle.numerals.proofs.text.with_number.Lts as lts
-use Rattle.numerals.proofs.text.added.Reads as added-reads
-use Rattle.numerals.proofs.text.with_digits.Reads as with-digits-reads
 
 slice-aggregate-added : tie.Need-slice-aggregate-added
 slice-aggregate-added c = search needs

@@ -7,12 +7,6 @@ use Rattle.numerals.proofs.Texts.{added-twice, wider, signed-negative, 
 use borrow.Author.Needs.{needs}
 use Rattle.numerals.proofs.text.with_signed.Statement.{statement}
 use Rattle.numerals.proofs.text.with_signed.Tie as tie
-use Rattle.numerals.proofs.text.with_signed.Reads as reads
-use Rattle.numerals.proofs.text.with_signed.Lts as lts
-use Rattle.numerals.proofs.text.added.Reads as added-reads
-use Rattle.numerals.proofs.text.with_digits.Reads as with-digits-reads
-use Rattle.wire.proofs.status.is_negative.Reads as is-negative-reads
-use Rattle.wire.proofs.status.magnitude.Reads as magnitude-reads
 
 magnitude-requires : tie.Need-magnitude-requires
 magnitude-requires c κs = search needs

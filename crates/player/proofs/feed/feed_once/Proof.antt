@@ -2,11 +2,6 @@ use Rattle.player.proofs.Streams.{tells}
 use borrow.Author.Needs.{needs}
 use Rattle.player.proofs.feed.feed_once.Statement.{statement}
 use Rattle.player.proofs.feed.feed_once.Tie as tie
-use Rattle.player.proofs.feed.feed_once.Reads as reads
-use Rattle.player.proofs.feed.feed_once.Lts as lts
-use Rattle.player.proofs.feed.is_end.Reads as is-end-reads
-use Rattle.player.proofs.text.put_feed.Reads as put-feed-reads
-use Rattle.session.proofs.state.Session.feed.Reads as feed-reads
 
 feed-requires : tie.Need-feed-requires
 feed-requires c κs = search needs

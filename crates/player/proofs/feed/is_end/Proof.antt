@@ -2,8 +2,6 @@ use Rattle.player.proofs.Puts.{removed-goes-on}
 use borrow.Author.Needs.{needs}
 use Rattle.player.proofs.feed.is_end.Statement.{statement}
 use Rattle.player.proofs.feed.is_end.Tie as tie
-use Rattle.player.proofs.feed.is_end.Reads as reads
-use Rattle.player.proofs.feed.is_end.Lts as lts
 
 enum-told : tie.Need-enum-told
 enum-told c = search needs

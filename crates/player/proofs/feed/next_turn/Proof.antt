@@ -2,8 +2,6 @@ use borrow.Author.Tests.{eq-eqb, ne-eqb}
 use borrow.Author.Needs.{needs}
 use Rattle.player.proofs.feed.next_turn.Statement.{statement}
 use Rattle.player.proofs.feed.next_turn.Tie as tie
-use Rattle.player.proofs.feed.next_turn.Reads as reads
-use Rattle.player.proofs.feed.next_turn.Lts as lts
 
 returns : tie.Need-returns
 returns c = search needs

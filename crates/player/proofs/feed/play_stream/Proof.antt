@@ -18,10 +18,6 @@ use Rattle.player.proofs.Puts.{part-end, puts-next}
 use Rattle.player.proofs.Streams.{Going, More, used-within, unbegun, resumed, finished}
 use Rattle.player.proofs.feed.play_stream.Statement.{statement}
 use Rattle.player.proofs.feed.play_stream.Tie as tie
-use Rattle.player.proofs.feed.play_stream.Reads as reads
-use Rattle.player.proofs.feed.play_stream.Lts as lts
-use Rattle.player.proofs.feed.feed_once.Reads as feed-once-reads
-use Rattle.player.proofs.feed.next_turn.Reads as next-turn-reads
 
 abbrev Inv-loop : tie.InvT-loop
 Inv-loop traced bytes work₀ reply₀ out₀ s₀ at₀ turn₀ len₀ size work reply out s at turn len =

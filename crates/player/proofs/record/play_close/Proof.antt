@@ -4,10 +4,6 @@ use Rattle.player.proofs.Acts.{close-played}
 use borrow.Author.Needs.{needs}
 use Rattle.player.proofs.record.play_close.Statement.{statement}
 use Rattle.player.proofs.record.play_close.Tie as tie
-use Rattle.player.proofs.record.play_close.Reads as reads
-use Rattle.player.proofs.record.play_close.Lts as lts
-use Rattle.lines.proofs.replay.close_lines.Reads as close-lines-reads
-use Rattle.session.proofs.state.Session.close.Reads as close-reads
 
 close-requires : tie.Need-close-requires
 close-requires c κs = search needs

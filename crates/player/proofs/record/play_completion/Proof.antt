@@ -3,11 +3,6 @@ use Rattle.player.proofs.Acts.{completion-played}
 use borrow.Author.Needs.{needs}
 use Rattle.player.proofs.record.play_completion.Statement.{statement}
 use Rattle.player.proofs.record.play_completion.Tie as tie
-use Rattle.player.proofs.record.play_completion.Reads as reads
-use Rattle.player.proofs.record.play_completion.Lts as lts
-use Rattle.player.proofs.text.put_completion.Reads as put-completion-reads
-use Rattle.session.proofs.state.Session.complete.Reads as complete-reads
-use Rattle.tape.proofs.table.device_data.Reads as device-data-reads
 
 device-data-requires : tie.Need-device-data-requires
 device-data-requires c κs = search needs

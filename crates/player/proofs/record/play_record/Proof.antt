@@ -2,12 +2,6 @@ use Rattle.player.proofs.Acts.{record-played}
 use borrow.Author.Needs.{needs}
 use Rattle.player.proofs.record.play_record.Statement.{statement}
 use Rattle.player.proofs.record.play_record.Tie as tie
-use Rattle.player.proofs.record.play_record.Reads as reads
-use Rattle.player.proofs.record.play_record.Lts as lts
-use Rattle.player.proofs.feed.play_stream.Reads as play-stream-reads
-use Rattle.player.proofs.record.play_close.Reads as play-close-reads
-use Rattle.player.proofs.record.play_completion.Reads as play-completion-reads
-use Rattle.tape.proofs.reader.stream_bytes.Reads as stream-bytes-reads
 
 enum-known-r : tie.Need-enum-known-r
 enum-known-r c = search needs

@@ -2,10 +2,6 @@ use Rattle.player.proofs.Puts.{puts-none, puts-wrote, removed-text}
 use borrow.Author.Needs.{needs}
 use Rattle.player.proofs.text.put_beside.Statement.{statement}
 use Rattle.player.proofs.text.put_beside.Tie as tie
-use Rattle.player.proofs.text.put_beside.Reads as reads
-use Rattle.player.proofs.text.put_beside.Lts as lts
-use Rattle.traces.proofs.trace_removed.Reads as trace-removed-reads
-use Rattle.player.proofs.text.put_submit.Reads as put-submit-reads
 
 enum-known-event : tie.Need-enum-known-event
 enum-known-event c = search needs

@@ -12,10 +12,6 @@ use Rattle.player.proofs.Puts.{puts-wrote, puts-next, with-trace, witho
 use borrow.Author.Needs.{needs}
 use Rattle.player.proofs.text.put_completion.Statement.{statement}
 use Rattle.player.proofs.text.put_completion.Tie as tie
-use Rattle.player.proofs.text.put_completion.Reads as reads
-use Rattle.player.proofs.text.put_completion.Lts as lts
-use Rattle.lines.proofs.replay.complete_line.Reads as complete-line-reads
-use Rattle.traces.proofs.trace_header.Reads as trace-header-reads
 
 abbrev start : tie.After-complete-line → tie.Start
 start f = f .before .before .before .before

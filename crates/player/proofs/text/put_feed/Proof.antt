@@ -11,10 +11,6 @@ use Rattle.player.proofs.Puts.{puts-wrote, puts-next, with-trace, witho
 use borrow.Author.Needs.{needs}
 use Rattle.player.proofs.text.put_feed.Statement.{statement}
 use Rattle.player.proofs.text.put_feed.Tie as tie
-use Rattle.player.proofs.text.put_feed.Reads as reads
-use Rattle.player.proofs.text.put_feed.Lts as lts
-use Rattle.lines.proofs.replay.feed_lines.Reads as feed-lines-reads
-use Rattle.player.proofs.text.put_traced.Reads as put-traced-reads
 
 abbrev start : tie.After-feed-lines → tie.Start
 start f = f .before .before .before .before .before

@@ -10,12 +10,6 @@ use Rattle.player.proofs.Puts.{puts-wrote, puts-next}
 use borrow.Author.Needs.{needs}
 use Rattle.player.proofs.text.put_submit.Statement.{statement}
 use Rattle.player.proofs.text.put_submit.Tie as tie
-use Rattle.player.proofs.text.put_submit.Reads as reads
-use Rattle.player.proofs.text.put_submit.Lts as lts
-use Rattle.traces.proofs.trace_data.Reads as trace-data-reads
-use Rattle.traces.proofs.trace_record.Reads as trace-record-reads
-use Rattle.player.proofs.text.data_len.Reads as data-len-reads
-use Rattle.player.proofs.text.front.Reads as front-reads
 
 abbrev start : tie.After-trace-record → tie.Start
 start c = c .before .before .before .before

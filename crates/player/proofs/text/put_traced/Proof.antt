@@ -11,11 +11,6 @@ use Rattle.player.proofs.Puts.{puts-wrote, puts-next}
 use borrow.Author.Needs.{needs}
 use Rattle.player.proofs.text.put_traced.Statement.{statement}
 use Rattle.player.proofs.text.put_traced.Tie as tie
-use Rattle.player.proofs.text.put_traced.Reads as reads
-use Rattle.player.proofs.text.put_traced.Lts as lts
-use Rattle.traces.proofs.trace_feed.Reads as trace-feed-reads
-use Rattle.player.proofs.text.front.Reads as front-reads
-use Rattle.player.proofs.text.put_beside.Reads as put-beside-reads
 
 abbrev start : tie.After-trace-feed → tie.Start
 start t = t .before .before .before .before .before .before

@@ -10,8 +10,6 @@ use Rattle.records.proofs.Records.{noInterface}
 use Rattle.records.proofs.Fill.{fill-more, fill-done}
 use Rattle.records.proofs.interface.interface_records.Statement.{statement}
 use Rattle.records.proofs.interface.interface_records.Tie as tie
-use Rattle.records.proofs.interface.interface_records.Reads as reads
-use Rattle.records.proofs.interface.interface_records.Lts as lts
 
 abbrev Inv-loop : tie.InvT-loop
 Inv-loop all out₀ i₀ out i = (i ≤ MAX-INTERFACES) × (out ≡ take i (map interfaceRecord all) ++ drop i out₀)

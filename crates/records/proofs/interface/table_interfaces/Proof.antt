@@ -9,9 +9,6 @@ use Rattle.records.specs.Records.{INTERFACE-LEN, recordsOf}
 use Rattle.records.proofs.Fill.{fill-more, fill-done}
 use Rattle.records.proofs.interface.table_interfaces.Statement.{statement}
 use Rattle.records.proofs.interface.table_interfaces.Tie as tie
-use Rattle.records.proofs.interface.table_interfaces.Reads as reads
-use Rattle.records.proofs.interface.table_interfaces.Lts as lts
-use Rattle.records.proofs.interface.interface_records.Reads as interface-records-reads
 
 abbrev Inv-loop : tie.InvT-loop
 Inv-loop devices out₀ i₀ out i = (i ≤ MAX-DEVICES) × (out ≡ take i (map recordsOf devices) ++ drop i out₀)

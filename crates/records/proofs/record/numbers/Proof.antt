@@ -4,10 +4,6 @@ use Rattle.records.proofs.Records.{then1, then2, then4}
 use borrow.Author.Needs.{needs}
 use Rattle.records.proofs.record.numbers.Statement.{statement}
 use Rattle.records.proofs.record.numbers.Tie as tie
-use Rattle.records.proofs.record.numbers.Reads as reads
-use Rattle.records.proofs.record.numbers.Lts as lts
-use Rattle.wire.proofs.number.bytes2.Reads as bytes2-reads
-use Rattle.wire.proofs.number.bytes4.Reads as bytes4-reads
 
 bytes4-requires : tie.Need-bytes4-requires
 bytes4-requires c κs = search needs

@@ -1,7 +1,7 @@
 use Prim.Native.Nat.{_≤_, _+_, _-_}
 use native.Mathlib.Omega.{arith}
 use mathlib.Core.Path.{_≡_, refl, sym, ap, _∙_}
-use mathlib.Core.List.{List, _++_}
+use mathlib.Core.List.{_++_}
 use lib.ListN.{length, length-append}
 use borrow.Rule.Slice.PartMut.{same-len-mid}
 use Rattle.wire.specs.Codes.{BUSID-LEN}
@@ -14,10 +14,6 @@ use Rattle.records.proofs.Records.{unmapped, record-length}
 use borrow.Author.Needs.{needs}
 use Rattle.records.proofs.record.write_record.Statement.{statement}
 use Rattle.records.proofs.record.write_record.Tie as tie
-use Rattle.records.proofs.record.write_record.Reads as reads
-use Rattle.records.proofs.record.write_record.Lts as lts
-use Rattle.records.proofs.record.numbers.Reads as numbers-reads
-use Rattle.wire.proofs.writing.write.Reads as write-reads
 
 shaped : (c : tie.Start) → Shaped (c .args .d)
 shaped c = search (unmapped, needs)

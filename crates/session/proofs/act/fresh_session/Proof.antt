@@ -1,10 +1,6 @@
 use borrow.Author.Needs.{needs}
 use Rattle.session.proofs.act.fresh_session.Statement.{statement}
 use Rattle.session.proofs.act.fresh_session.Tie as tie
-use Rattle.session.proofs.act.fresh_session.Reads as reads
-use Rattle.session.proofs.act.fresh_session.Lts as lts
-use Rattle.pending.proofs.list.Pending.empty.Reads as empty-reads
-use Rattle.settling.proofs.ends.fresh_link.Reads as fresh-link-reads
 
 fresh-link-requires : tie.Need-fresh-link-requires
 fresh-link-requires c κs = search needs

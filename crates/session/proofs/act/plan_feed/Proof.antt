@@ -5,10 +5,6 @@ use mathlib.Core.Path.{_≡_, refl}
 use borrow.Author.Needs.{needs}
 use Rattle.session.proofs.act.plan_feed.Statement.{statement}
 use Rattle.session.proofs.act.plan_feed.Tie as tie
-use Rattle.session.proofs.act.plan_feed.Reads as reads
-use Rattle.session.proofs.act.plan_feed.Lts as lts
-use Rattle.feeding.proofs.feed.plan_message.Reads as plan-message-reads
-use Rattle.feeding.proofs.feed.plan_request.Reads as plan-request-reads
 
 whole-list : (c : tie.Start) → length (c .args .s .pending .urbs) ≡ MAX-PENDING
 whole-list c = search (unmapped, needs)

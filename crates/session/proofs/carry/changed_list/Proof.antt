@@ -4,11 +4,6 @@ use mathlib.Core.Path.{sym, ap, _∙_}
 use borrow.Author.Needs.{needs}
 use Rattle.session.proofs.carry.changed_list.Statement.{statement}
 use Rattle.session.proofs.carry.changed_list.Tie as tie
-use Rattle.session.proofs.carry.changed_list.Reads as reads
-use Rattle.session.proofs.carry.changed_list.Lts as lts
-use Rattle.pending.proofs.list.Pending.append.Reads as append-reads
-use Rattle.pending.proofs.list.Pending.empty.Reads as empty-reads
-use Rattle.pending.proofs.list.Pending.remove.Reads as remove-reads
 
 enum-told : tie.Need-enum-told
 enum-told c = search needs

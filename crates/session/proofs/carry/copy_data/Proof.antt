@@ -7,9 +7,6 @@ use mathlib.Core.Path.{_≡_, refl}
 use borrow.Author.Needs.{needs}
 use Rattle.session.proofs.carry.copy_data.Statement.{statement}
 use Rattle.session.proofs.carry.copy_data.Tie as tie
-use Rattle.session.proofs.carry.copy_data.Reads as reads
-use Rattle.session.proofs.carry.copy_data.Lts as lts
-use Rattle.wire.proofs.writing.write.Reads as write-reads
 
 sub-write : tie.Need-sub-write
 sub-write c = search needs

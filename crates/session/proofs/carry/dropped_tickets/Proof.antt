@@ -3,10 +3,6 @@ use mathlib.Core.Path.{sym, ap, _∙_}
 use borrow.Author.Needs.{needs}
 use Rattle.session.proofs.carry.dropped_tickets.Statement.{statement}
 use Rattle.session.proofs.carry.dropped_tickets.Tie as tie
-use Rattle.session.proofs.carry.dropped_tickets.Reads as reads
-use Rattle.session.proofs.carry.dropped_tickets.Lts as lts
-use Rattle.pending.proofs.list.Pending.tickets.Reads as tickets-reads
-use Rattle.session.proofs.carry.no_tickets.Reads as no-tickets-reads
 
 enum-told : tie.Need-enum-told
 enum-told c = search needs

@@ -5,9 +5,6 @@ use native.Mathlib.Omega.{arith}
 use borrow.Author.Needs.{needs}
 use Rattle.session.proofs.carry.write_header.Statement.{statement}
 use Rattle.session.proofs.carry.write_header.Tie as tie
-use Rattle.session.proofs.carry.write_header.Reads as reads
-use Rattle.session.proofs.carry.write_header.Lts as lts
-use Rattle.messages.proofs.reply.write_ret_submit.Reads as write-ret-submit-reads
 
 write-ret-submit-requires : tie.Need-write-ret-submit-requires
 write-ret-submit-requires c κs = search needs

@@ -15,14 +15,6 @@ use mathlib.Core.Path.{_≡_, refl, ap}
 use borrow.Author.Needs.{needs}
 use Rattle.session.proofs.carry.write_reply.Statement.{statement}
 use Rattle.session.proofs.carry.write_reply.Tie as tie
-use Rattle.session.proofs.carry.write_reply.Reads as reads
-use Rattle.session.proofs.carry.write_reply.Lts as lts
-use Rattle.importing.proofs.import_reply.Reads as import-reply-reads
-use Rattle.importing.proofs.refuse_import.Reads as refuse-import-reads
-use Rattle.listing.proofs.list_reply.Reads as list-reply-reads
-use Rattle.messages.proofs.reply.write_ret_submit.Reads as write-ret-submit-reads
-use Rattle.messages.proofs.reply.write_ret_unlink.Reads as write-ret-unlink-reads
-use Rattle.events.proofs.event.device_at.Reads as device-at-reads
 
 enum-told : tie.Need-enum-told
 enum-told c = search needs

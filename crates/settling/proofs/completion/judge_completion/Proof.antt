@@ -23,15 +23,6 @@ use mathlib.Core.Path.{_≡_, sym, ap, _∙_}
 use borrow.Author.Needs.{needs}
 use Rattle.settling.proofs.completion.judge_completion.Statement.{statement}
 use Rattle.settling.proofs.completion.judge_completion.Tie as tie
-use Rattle.settling.proofs.completion.judge_completion.Reads as reads
-use Rattle.settling.proofs.completion.judge_completion.Lts as lts
-use Rattle.settling.proofs.completion.completing.Reads as completing-reads
-use Rattle.settling.proofs.completion.reply_for.Reads as reply-for-reads
-use Rattle.settling.proofs.completion.returned_link.Reads as returned-link-reads
-use Rattle.settling.proofs.completion.search_ticket.Reads as search-ticket-reads
-use Rattle.links.proofs.phase_of.Reads as phase-of-reads
-use Rattle.transmit.proofs.wire_length.Reads as wire-length-reads
-use Rattle.verdicts.proofs.verdict.complete_verdict.Reads as complete-verdict-reads
 
 whole-list : (c : tie.Start) → length (c .args .list .urbs) ≡ MAX-PENDING
 whole-list c = search (unmapped, needs)

@@ -7,10 +7,6 @@ use mathlib.Core.Path.{_≡_, sym, _∙_}
 use borrow.Author.Needs.{needs}
 use Rattle.settling.proofs.completion.search_ticket.Statement.{statement}
 use Rattle.settling.proofs.completion.search_ticket.Tie as tie
-use Rattle.settling.proofs.completion.search_ticket.Reads as reads
-use Rattle.settling.proofs.completion.search_ticket.Lts as lts
-use Rattle.pending.proofs.list.Pending.at.Reads as at-reads
-use Rattle.pending.proofs.list.Pending.find_ticket.Reads as find-ticket-reads
 
 whole-list : (c : tie.Start) → length (c .args .list .urbs) ≡ MAX-PENDING
 whole-list c = search (unmapped, needs)

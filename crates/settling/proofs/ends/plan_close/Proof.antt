@@ -15,10 +15,6 @@ use mathlib.Core.Path.{_≡_, sym, ap, _∙_}
 use borrow.Author.Needs.{needs}
 use Rattle.settling.proofs.ends.plan_close.Statement.{statement}
 use Rattle.settling.proofs.ends.plan_close.Tie as tie
-use Rattle.settling.proofs.ends.plan_close.Reads as reads
-use Rattle.settling.proofs.ends.plan_close.Lts as lts
-use Rattle.events.proofs.event.ended.Reads as ended-reads
-use Rattle.links.proofs.phase_of.Reads as phase-of-reads
 
 phase-of-requires : tie.Need-phase-of-requires
 phase-of-requires c κs = search needs

@@ -1,11 +1,7 @@
-use borrow.Author.Tests.{lt-ltb, le-ltb, eq-eqb, ne-eqb}
+use borrow.Author.Tests.{lt-ltb, le-ltb}
 use borrow.Author.Needs.{needs}
 use Rattle.verdicts.proofs.verdict.complete_verdict.Statement.{statement}
 use Rattle.verdicts.proofs.verdict.complete_verdict.Tie as tie
-use Rattle.verdicts.proofs.verdict.complete_verdict.Reads as reads
-use Rattle.verdicts.proofs.verdict.complete_verdict.Lts as lts
-use Rattle.verdicts.proofs.verdict.short_data.Reads as short-data-reads
-use Rattle.wire.proofs.status.is_positive.Reads as is-positive-reads
 
 returns : tie.Need-returns
 returns c = rw (c .if1 .taken)

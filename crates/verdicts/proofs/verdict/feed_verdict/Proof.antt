@@ -1,10 +1,6 @@
-use borrow.Author.Tests.{lt-ltb, le-ltb, eq-eqb, ne-eqb}
-use native.Mathlib.Omega.{arith}
-use Rattle.verdicts.proofs.Deciding.{tests}
+use borrow.Author.Tests.{lt-ltb, le-ltb}
 use Rattle.verdicts.proofs.verdict.feed_verdict.Statement.{statement}
 use Rattle.verdicts.proofs.verdict.feed_verdict.Tie as tie
-use Rattle.verdicts.proofs.verdict.feed_verdict.Reads as reads
-use Rattle.verdicts.proofs.verdict.feed_verdict.Lts as lts
 
 -- src/verdict.rt:50:9
 returns : tie.Need-returns

@@ -2,8 +2,6 @@ use Rattle.verdicts.proofs.Deciding.{tests}
 use native.Mathlib.Omega.{arith}
 use Rattle.verdicts.proofs.verdict.good_packets.Statement.{statement}
 use Rattle.verdicts.proofs.verdict.good_packets.Tie as tie
-use Rattle.verdicts.proofs.verdict.good_packets.Reads as reads
-use Rattle.verdicts.proofs.verdict.good_packets.Lts as lts
 
 returns : tie.Need-returns
 returns c = search (tests, arith)

@@ -1,10 +1,7 @@
-use borrow.Author.Tests.{lt-ltb, le-ltb, eq-eqb, ne-eqb}
+use borrow.Author.Tests.{lt-ltb, le-ltb, ne-eqb}
 use borrow.Author.Needs.{needs}
 use Rattle.verdicts.proofs.verdict.message_verdict.Statement.{statement}
 use Rattle.verdicts.proofs.verdict.message_verdict.Tie as tie
-use Rattle.verdicts.proofs.verdict.message_verdict.Reads as reads
-use Rattle.verdicts.proofs.verdict.message_verdict.Lts as lts
-use Rattle.verdicts.proofs.verdict.good_packets.Reads as good-packets-reads
 
 returns : tie.Need-returns
 returns c = rw (c .if1 .taken)

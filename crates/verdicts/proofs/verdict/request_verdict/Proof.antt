@@ -2,8 +2,6 @@ use native.Mathlib.Omega.{arith}
 use Rattle.verdicts.proofs.Deciding.{tests}
 use Rattle.verdicts.proofs.verdict.request_verdict.Statement.{statement}
 use Rattle.verdicts.proofs.verdict.request_verdict.Tie as tie
-use Rattle.verdicts.proofs.verdict.request_verdict.Reads as reads
-use Rattle.verdicts.proofs.verdict.request_verdict.Lts as lts
 
 -- src/verdict.rt:66:9
 returns : tie.Need-returns

@@ -2,8 +2,6 @@ use Rattle.verdicts.proofs.Deciding.{tests}
 use native.Mathlib.Omega.{arith}
 use Rattle.verdicts.proofs.verdict.short_data.Statement.{statement}
 use Rattle.verdicts.proofs.verdict.short_data.Tie as tie
-use Rattle.verdicts.proofs.verdict.short_data.Reads as reads
-use Rattle.verdicts.proofs.verdict.short_data.Lts as lts
 
 returns : tie.Need-returns
 returns c = search (tests, arith)

@@ -3,8 +3,6 @@ use Rattle.verdicts.proofs.Deciding.{tests}
 use borrow.Author.Needs.{needs}
 use Rattle.verdicts.proofs.verdict.submit_verdict.Statement.{statement}
 use Rattle.verdicts.proofs.verdict.submit_verdict.Tie as tie
-use Rattle.verdicts.proofs.verdict.submit_verdict.Reads as reads
-use Rattle.verdicts.proofs.verdict.submit_verdict.Lts as lts
 
 -- src/verdict.rt:108:8
 cast-if1 : tie.Need-cast-if1

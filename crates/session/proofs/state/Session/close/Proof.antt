@@ -7,11 +7,6 @@ use mathlib.Core.Path.{_≡_, refl, _∙_}
 use borrow.Author.Needs.{needs}
 use Rattle.session.proofs.state.Session.close.Statement.{statement}
 use Rattle.session.proofs.state.Session.close.Tie as tie
-use Rattle.session.proofs.state.Session.close.Reads as reads
-use Rattle.session.proofs.state.Session.close.Lts as lts
-use Rattle.settling.proofs.ends.plan_close.Reads as plan-close-reads
-use Rattle.session.proofs.carry.changed_list.Reads as changed-list-reads
-use Rattle.session.proofs.carry.dropped_tickets.Reads as dropped-tickets-reads
 
 whole-list : (c : tie.Start) → length (c .args .self .pending .urbs) ≡ MAX-PENDING
 whole-list c = search (unmapped, needs)

@@ -4,11 +4,6 @@ use mathlib.Core.Path.{refl, _∙_}
 use borrow.Author.Needs.{needs}
 use Rattle.session.proofs.state.Session.complete.Statement.{statement}
 use Rattle.session.proofs.state.Session.complete.Tie as tie
-use Rattle.session.proofs.state.Session.complete.Reads as reads
-use Rattle.session.proofs.state.Session.complete.Lts as lts
-use Rattle.settling.proofs.completion.judge_completion.Reads as judge-completion-reads
-use Rattle.session.proofs.carry.changed_list.Reads as changed-list-reads
-use Rattle.session.proofs.carry.write_header.Reads as write-header-reads
 
 judge-completion-requires : tie.Need-judge-completion-requires
 judge-completion-requires c κs = search needs

@@ -7,13 +7,6 @@ use mathlib.Core.Path.{refl, _∙_}
 use borrow.Author.Needs.{needs}
 use Rattle.session.proofs.state.Session.feed.Statement.{statement}
 use Rattle.session.proofs.state.Session.feed.Tie as tie
-use Rattle.session.proofs.state.Session.feed.Reads as reads
-use Rattle.session.proofs.state.Session.feed.Lts as lts
-use Rattle.session.proofs.act.plan_feed.Reads as plan-feed-reads
-use Rattle.session.proofs.carry.changed_list.Reads as changed-list-reads
-use Rattle.session.proofs.carry.copy_data.Reads as copy-data-reads
-use Rattle.session.proofs.carry.dropped_tickets.Reads as dropped-tickets-reads
-use Rattle.session.proofs.carry.write_reply.Reads as write-reply-reads
 
 plan-feed-requires : tie.Need-plan-feed-requires
 plan-feed-requires c κs = search needs

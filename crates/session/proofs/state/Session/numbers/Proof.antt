@@ -1,9 +1,6 @@
 use borrow.Author.Needs.{needs}
 use Rattle.session.proofs.state.Session.numbers.Statement.{statement}
 use Rattle.session.proofs.state.Session.numbers.Tie as tie
-use Rattle.session.proofs.state.Session.numbers.Reads as reads
-use Rattle.session.proofs.state.Session.numbers.Lts as lts
-use Rattle.pending.proofs.list.Pending.len.Reads as len-reads
 
 len-requires : tie.Need-len-requires
 len-requires c κs = search needs

@@ -4,10 +4,6 @@ use mathlib.Core.Path.{ap, _∙_}
 use borrow.Author.Needs.{needs}
 use Rattle.session.proofs.state.Session.open.Statement.{statement}
 use Rattle.session.proofs.state.Session.open.Tie as tie
-use Rattle.session.proofs.state.Session.open.Reads as reads
-use Rattle.session.proofs.state.Session.open.Lts as lts
-use Rattle.session.proofs.act.fresh_session.Reads as fresh-session-reads
-use Rattle.tables.proofs.is_good.Reads as is-good-reads
 
 is-good-requires : tie.Need-is-good-requires
 is-good-requires c κs = search needs
