@@ -19,7 +19,6 @@ ghost use mathlib.Core.Path.{_≡_};
 ghost use Prim.Native.Nat.{_+_, _≤_};
 ghost use lib.ListN.{length};
 ghost use Rattle.wire.specs.Fields.{field};
-ghost use Rattle.tape.specs.Layout;
 ghost use Rattle.tape.specs.Tape.{lengthOf, streamHead, completionHead, headOf, readOf, nextOf, wantedOf, streamOf};
 
 // A record: how many stream bytes it has; a completion by the device (actual is actual_length); a close. `fieldsOf` in specs/
