@@ -4,7 +4,9 @@ use tape::layout::MAX_RECORD_LEN;
 use tape::reader::wanted;
 ghost use Prim.Native.Nat.{_+_, _≤_};
 ghost use mathlib.Core.Path.{_≡_};
-ghost use lib.ListN.{length};
+ghost use lib.ListN.{length, take, drop};
+ghost use Rattle.tape.specs.Layout;
+ghost use Rattle.console.specs.Windows.{Inside, Refilled};
 
 // Some of the longest records.
 pub(crate) const INPUT_LEN: usize = 4 * MAX_RECORD_LEN;
@@ -30,6 +32,7 @@ pub(crate) fn no_window() -> Window
 // Moves n bytes from a place to the front.
 fn move_front(buf: &mut [u8], at: usize, n: usize)
     requires { ⌜ at + n ≤ length (now buf) ⌝ }
+    ensures { λ _. ⌜ take n (now (buf .exit)) ≡ take n (drop at (now (buf .entry))) ⌝ }
 {
     let mut i: usize = 0;
     while i < n {
@@ -40,8 +43,8 @@ fn move_front(buf: &mut [u8], at: usize, n: usize)
 
 // Reads on where the record at the front isn't all there.
 pub(crate) fn refill(buf: &mut [u8], w: Window) -> Window
-    requires { ⌜ (w .at ≤ w .end) × (w .end ≤ length (now buf)) ⌝ }
-    ensures { λ r. ⌜ (r .at ≤ r .end) × (r .end ≤ length (now (buf .exit))) ⌝ }
+    requires { ⌜ Inside w (now buf) × (Layout.MAX-RECORD-LEN ≤ length (now buf)) ⌝ }
+    ensures { λ r. ⌜ Refilled w r (now (buf .entry)) (now (buf .exit)) ⌝ }
 {
     let at = w.at;
     let end = w.end;

@@ -21,6 +21,9 @@ use tape::reader::record_len;
 use tape::table::tape_table;
 use verdicts::limits::REPLY_LEN;
 use verdicts::limits::WORK_LEN;
+ghost use Prim.Native.Nat.{_≤_};
+ghost use lib.ListN.{length};
+ghost use Rattle.tape.specs.Layout;
 
 // Prints the lines in the buffer, and that a record doesn't read.
 fn print_bad_tape(out: &mut [u8], len: usize) {
@@ -37,7 +40,9 @@ fn play_records(
     work: &mut [u8],
     reply: &mut [u8],
     out: &mut [u8],
-) -> Session {
+) -> Session
+    requires { ⌜ Layout.MAX-RECORD-LEN ≤ length (now input) ⌝ }
+{
     let mut s = session;
     let mut window = no_window();
     let mut len: usize = 0;

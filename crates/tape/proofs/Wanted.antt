@@ -9,7 +9,7 @@ use lib.ListN.{length, drop, length-append, length-drop}
 use lib.Seq.{take-append-le, drop-append-le}
 use Rattle.wire.specs.Fields.{unpack, field, widths, size}
 use Rattle.tape.specs.Layout
-use Rattle.tape.specs.Tape.{fieldsOf, countOf, lengthOf, headOf, readIn, readOf, wantedIn, wantedOf}
+use Rattle.tape.specs.Tape.{fieldsOf, countOf, lengthOf, headOf, readIn, readOf, wantedIn, wantedOf, Settled}
 use Rattle.tape.specs.declared.reader.Record.{Record}
 use Rattle.tape.specs.declared.reader.Record.the-variants.{Stream, Completion, Close}
 use Rattle.tape.specs.declared.reader.Read.{Read}
@@ -101,19 +101,15 @@ module _ (bytes more : List ℕ) where
   settled (Head.Short n) t w = absurd (omega arith)
   settled Head.Bad t w = rw (bad-stays bytes more t)
 
-  -- where as many are there, what stands behind them changes nothing
-  pub enough : wantedOf bytes ≤ length bytes → readOf (bytes ++ more) ≡ readOf bytes
-  enough w = settled (headOf bytes) (told bytes) w
+-- where as many are there, what stands behind them changes nothing
+pub enough : (bytes : List ℕ) → wantedOf bytes ≤ length bytes → Settled bytes
+enough bytes w more = settled bytes more (headOf bytes) (told bytes) w
 
--- as many as a record has that is read
-pub wanted-exact : (bytes : List ℕ) (r : Record) → readOf bytes ≡ Read.Record r → wantedOf bytes ≡ lengthOf r
-wanted-exact bytes r e = ap (wantedIn (length bytes)) (read-head (length bytes) (headOf bytes) r e .0)
-
-room-for : (bytes : List ℕ) (h : Head) → Told bytes h → length bytes ≤ Layout.MAX-RECORD-LEN → wantedIn (length bytes) h ≤ Layout.MAX-RECORD-LEN
-room-for bytes (Head.Record r) t l = most r (t .1)
+room-for : (bytes : List ℕ) (h : Head) → Told bytes h → Layout.MAX-RECORD-LEN ≤ length bytes → wantedIn (length bytes) h ≤ length bytes
+room-for bytes (Head.Record r) t l = omega (arith, most r (t .1))
 room-for bytes (Head.Short n) t l = one-of-3 (λ a. omega arith) (λ a. omega arith) (λ a. omega arith) (t .1)
-room-for bytes Head.Bad t l = l
+room-for bytes Head.Bad t l = omega arith
 
 -- no more than a buffer for the longest record has room for
-pub wanted-room : (bytes : List ℕ) → length bytes ≤ Layout.MAX-RECORD-LEN → wantedOf bytes ≤ Layout.MAX-RECORD-LEN
+pub wanted-room : (bytes : List ℕ) → Layout.MAX-RECORD-LEN ≤ length bytes → wantedOf bytes ≤ length bytes
 wanted-room bytes l = room-for bytes (headOf bytes) (told bytes) l

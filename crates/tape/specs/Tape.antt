@@ -1,8 +1,7 @@
 -- A tape's records, each read from the bytes at the front of what is left of the tape (01, "The replay tape").
-use Prim.Native.Nat.{ℕ, zero, suc, _+_, _≤_, min}
+use Prim.Native.Nat.{ℕ, _+_, _≤_}
 use mathlib.Core.Path.{_≡_}
 use mathlib.Core.Bool.{cond}
-use mathlib.Core.Logic.{_⊎_}
 use mathlib.Core.List.{List, [], _∷_, _++_}
 use lib.Dec.{eqb, ltb, leb}
 use lib.ListN.{length, take, drop}
@@ -98,18 +97,6 @@ wantedIn present Head.Bad = present
 abbrev pub wantedOf : List ℕ → ℕ
 wantedOf bytes = wantedIn (length bytes) (headOf bytes)
 
--- How many bytes of a tape a program has that asks n times how many are wanted, and reads on to as many or to the end.
-abbrev pub taken : ℕ → List ℕ → ℕ
-taken zero tape = 0
-taken (suc n) tape = min (wantedOf (take (taken n tape) tape)) (length tape)
-
--- Nothing more is wanted, or nothing more comes.
-abbrev pub Stopped : List ℕ → ℕ → Type 0
-Stopped tape have = (wantedOf (take have tape) ≤ have) ⊎ (have ≡ length tape)
-
--- The first bytes of a tape, as many as `have`, read as the whole tape does; no byte behind the record is among them; and a
--- buffer for the longest record has room for them.
-pub record Streamed (tape : List ℕ) (have : ℕ) : Type 0 where
-  pub same : readOf (take have tape) ≡ readOf tape
-  pub exact : (r : Record) → readOf tape ≡ Read.Record r → have ≡ lengthOf r
-  pub room : have ≤ Layout.MAX-RECORD-LEN
+-- Whatever follows these bytes, the record at their front reads alike.
+abbrev pub Settled : List ℕ → Type 0
+Settled bytes = (more : List ℕ) → readOf (bytes ++ more) ≡ readOf bytes

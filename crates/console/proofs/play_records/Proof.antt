@@ -35,7 +35,10 @@ loop-holds : tie.Need-loop-holds Inv-loop μ-loop
 loop-holds c = search needs
 
 refill-requires : tie.Need-refill-requires Inv-loop μ-loop
-refill-requires c κs = search needs
+refill-requires c κs =
+    let l = c .before .before in
+    let i = l .loop .inv in
+    ((i .0, i .1), omega (arith, i .4, l .before .before .before .before .before .before .pre))
 
 flush-requires : tie.Need-flush-requires Inv-loop μ-loop
 flush-requires c κs = search needs
@@ -146,7 +149,7 @@ inside p =
     let w = refilled p .refill .result in
     let bytes = take (w .end - w .at) (drop (w .at) (refilled p .refill .last .0)) in
     let h = next-whole (loop p .loop .n) bytes (f .read .given .0 .0) (sym (f .before .before .read-next .ensures) ∙ f .read .given .1) in
-    omega (arith, h, length-take (w .end - w .at) (drop (w .at) (refilled p .refill .last .0)), refilled p .refill .ensures .0)
+    omega (arith, h, length-take (w .end - w .at) (drop (w .at) (refilled p .refill .last .0)), refilled p .refill .ensures .inside .0)
 
 -- the lines stay in the output
 put : (p : tie.After-play-record Inv-loop μ-loop) → roomy p .make-room .result + p .play-record .result .len ≤ length (loop p .loop .out)
@@ -169,7 +172,7 @@ add-next : tie.Need-add-next Inv-loop μ-loop
 add-next c =
     let p = c .before .before .before .before .before .before .before .before .before in
     let w = refilled p .refill in
-    let h : Fits w64 (w .result .at + c .record-len .result) = omega (arith, inside p, c .record-len .ensures, w .ensures .1, w .kept .0, loop p .loop .inv .4, long (loop p)) in
+    let h : Fits w64 (w .result .at + c .record-len .result) = omega (arith, inside p, c .record-len .ensures, w .ensures .inside .1, w .kept .0, loop p .loop .inv .4, long (loop p)) in
     h
 
 add-n : tie.Need-add-n Inv-loop μ-loop
@@ -194,7 +197,7 @@ loop-again c =
     let at : w .result .at + c .record-len .result ≤ w .result .end = omega (arith, inside p, c .record-len .ensures) in
     let next : l .n + 1 ≤ MAX-RECORDS + 1 = omega (arith, early p) in (
       at,
-      w .ensures .1,
+      w .ensures .inside .1,
       rw same (put p),
       next,
       w .kept .0 ∙ l .inv .4,

@@ -1,12 +1,14 @@
-use Prim.Native.Nat.{_-_, _≤_}
-use mathlib.Core.Path.{_≡_}
-use lib.ListN.{length}
+use native.Mathlib.Omega.{arith}
+use Prim.Native.Nat.{_+_, _-_, _≤_, _<_}
+use mathlib.Core.Path.{_≡_, _∙_}
+use lib.ListN.{length, getD, length-set}
 use borrow.Author.Needs.{needs}
+use Rattle.console.proofs.Moving.{Moved, move-more}
 use Rattle.console.proofs.input.move_front.Statement.{statement}
 use Rattle.console.proofs.input.move_front.Tie as tie
 
 abbrev Inv-loop : tie.InvT-loop
-Inv-loop buf₀ at n i₀ buf i = (i ≤ n) × (length buf ≡ length buf₀)
+Inv-loop buf₀ at n i₀ buf i = (i ≤ n) × (length buf ≡ length buf₀) × Moved buf₀ at i buf
 
 abbrev μ-loop : tie.MeasureT-loop
 μ-loop buf₀ at n i₀ buf i = n - i
@@ -30,13 +32,21 @@ loop-less : tie.Need-loop-less Inv-loop μ-loop
 loop-less c = search needs
 
 loop-again : tie.Need-loop-again Inv-loop μ-loop
-loop-again c = search needs
+loop-again c =
+    let l = c .before .before in
+    let a = l .before .args in
+    let e = l .loop .inv .1 in
+    let h : a .at + l .loop .i < length (a .buf .now) = omega (arith, l .before .pre, c .before .loop-test .taken) in
+    (omega arith, length-set (l .loop .buf) (l .loop .i) (getD (l .loop .buf) (a .at + l .loop .i) 0) ∙ e, move-more (a .buf .now) (l .loop .buf) (a .at) (l .loop .i) 0 (l .loop .inv .2) h (omega (arith, e, h)))
 
 same-length : tie.Need-same-length Inv-loop μ-loop
 same-length c = search needs
 
 returns : tie.Need-returns Inv-loop μ-loop
-returns c = search needs
+returns c =
+    let l = c .before in
+    let e : l .loop .i ≡ l .before .args .n = omega (arith, l .loop .inv .0, c .loop-test .left) in
+    rw e at (l .loop .inv .2 .0)
 
 pub move-front-spec : {M : Type 1} → statement M
 move-front-spec =
