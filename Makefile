@@ -1,16 +1,13 @@
 # The two commands of the README.
 .PHONY: run test
 
-# The prover's many small files are quicker in memory, where there is such a folder.
-export TMPDIR ?= $(firstword $(wildcard /dev/shm) /tmp)
-
 # A tape as text (NAME.txt, see reference/README.md), or as bytes.
 TAPE ?= tapes/late-picture.txt
 
 # Proves and builds the programs, and replays a tape: what it tells, and the lines that the box answers with.
 run:
 	@mkdir -p target
-	@echo "proving and building (the first time takes some minutes)"
+	@echo "proving and building (four minutes the first time)"
 	@rt check replay trace > target/run.log 2>&1 || { cat target/run.log; exit 1; }
 	@cargo build --quiet --release --offline --manifest-path reference/Cargo.toml
 	@case "$(TAPE)" in \
