@@ -16,8 +16,8 @@ windowOf w buffer = take (w .end - w .at) (drop (w .at) buffer)
 abbrev pub Inside : Window → List ℕ → Type 0
 Inside w buffer = (w .at ≤ w .end) × (w .end ≤ length buffer)
 
--- A window was refilled: its bytes are still there, at its front; the record there reads as it does on the whole tape, or the
--- input has ended; and it has ended only where there was room for more.
+-- A window was refilled: its bytes are still there, at its front; the record there reads as it does on the whole tape, unless the
+-- input is taken for ended, which it is only where there was room for more. (What came in isn't stated: that is C's.)
 pub record Refilled (w r : Window) (before after : List ℕ) : Type 0 where
   pub inside : Inside r after
   pub kept : take (w .end - w .at) (windowOf r after) ≡ windowOf w before
