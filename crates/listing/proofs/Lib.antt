@@ -1,3 +1,4 @@
 -- The laws of the list reply.
 pub mod Lists
 pub mod Offsets
+pub mod Whole

@@ -4,7 +4,7 @@ use mathlib.Core.Path.{_≡_, refl, ap, _∙_}
 use mathlib.Core.Bool.{Bool, true, false, cond, and-eq-true-iff}
 use mathlib.Core.List.{List, [], _∷_, _++_}
 use native.Mathlib.Omega.{arith}
-use borrow.Author.Tests.{le-leb, lt-leb}
+use borrow.Author.Tests.{le-leb, lt-leb, leb-true}
 use lib.ListN.{length, drop, length-append}
 use lib.Seq.{length-take-le}
 use Rattle.wire.specs.Fields.{joined}
@@ -19,6 +19,9 @@ use Rattle.records.proofs.Records.{record-length}
 use Rattle.listing.specs.Lists.{LIST-HEAD-LEN, few, listable, listHead, listed, listedSize, listReply}
 
 -- ## A device in a list
+
+pub few-known : (d : Device) → few d ≡ true → d .bNumInterfaces ≤ MAX-INTERFACES
+few-known d h = let k = leb-true (d .bNumInterfaces) _ h in omega (arith, k)
 
 pub listed-length : (d : Device) → Shaped d → d .bNumInterfaces ≤ MAX-INTERFACES → length (listed d) ≡ listedSize d
 unfolding listed

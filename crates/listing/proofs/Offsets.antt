@@ -3,7 +3,6 @@ use Prim.Native.Nat.{ℕ, _+_, _≤_}
 use mathlib.Core.Path.{_≡_, refl, ap, _∙_}
 use mathlib.Core.Bool.{true, and-eq-true-iff}
 use mathlib.Core.List.{List, [], _∷_, _++_}
-use borrow.Author.Tests.{leb-true}
 use lib.ListN.{length, drop, length-append}
 use lib.Seq.{drop-at, drop-drop}
 use Rattle.wire.specs.Fields.{joined}
@@ -13,7 +12,7 @@ use Rattle.exports.specs.declared.device.Device.{Device}
 use Rattle.exports.specs.declared.device.Table.{Table}
 use Rattle.records.specs.Records.{Shaped}
 use Rattle.listing.specs.Lists.{LIST-HEAD-LEN, few, listed, listedSize, sizeOf, listHead, listReply}
-use Rattle.listing.proofs.Lists.{listed-length, list-is, list-length}
+use Rattle.listing.proofs.Lists.{few-known, listed-length, list-is, list-length}
 
 -- every device of a list is as its types say
 abbrev pub AllShaped : List Device → Type 0
@@ -24,7 +23,7 @@ pub joined-size : (ds : List Device) → AllShaped ds → every few ds ≡ true 
 joined-size [] s h = refl
 joined-size (d ∷ ds) s h =
     let b = and-eq-true-iff (few d) (every few ds) .0 h in
-    length-append (listed d) (joined listed ds) ∙ rw (listed-length d (s .0) (leb-true _ _ (b .0)), joined-size ds (s .1) (b .1))
+    length-append (listed d) (joined listed ds) ∙ rw (listed-length d (s .0) (few-known d (b .0)), joined-size ds (s .1) (b .1))
 
 -- the i-th device stands behind the sizes of those before it
 pub joined-at : (before : List Device) (d : Device) (after : List Device) → AllShaped before → every few before ≡ true
@@ -32,7 +31,7 @@ pub joined-at : (before : List Device) (d : Device) (after : List Device) → Al
 joined-at [] d after s h = refl
 joined-at (b ∷ before) d after s h =
     let p = and-eq-true-iff (few b) (every few before) .0 h in
-    let n = listed-length b (s .0) (leb-true _ _ (p .0)) in
+    let n = listed-length b (s .0) (few-known b (p .0)) in
     rw (← (drop-drop (sizeOf before) (listedSize b) (listed b ++ joined listed (before ++ d ∷ after))), drop-at (listed b) (joined listed (before ++ d ∷ after)) (listedSize b) n)
     (joined-at before d after (s .1) (p .1))
 

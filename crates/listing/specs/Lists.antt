@@ -12,6 +12,7 @@ use Rattle.exports.specs.Devices.{MAX-DEVICES, MAX-INTERFACES, devicesOf, inter
 use Rattle.exports.specs.Rules.{every}
 use Rattle.exports.specs.declared.device.Device.{Device}
 use Rattle.exports.specs.declared.device.Table.{Table}
+use Rattle.tables.specs.Tables.{Rules}
 use Rattle.records.specs.Records.{DEVICE-LEN, INTERFACE-LEN, deviceRecord, interfaceRecord, recordsOf}
 
 -- The bytes of a list reply before its first device.
@@ -38,6 +39,13 @@ listable t = leb (t .count) MAX-DEVICES && every few (devicesOf t)
 -- The list reply: each device straight after the last. No other table has one.
 unfoldable pub listReply : Table → List ℕ
 listReply t = cond (listable t) (listHead (t .count) ++ joined listed (devicesOf t)) []
+
+-- A table that keeps the rules has the whole reply: the head with its count of devices, then every device with its interfaces.
+-- (Each array of the code has all its places, so the count is how many devices there are.)
+abbrev pub ListsAll : Type 0
+ListsAll = (t : Table) → Rules t
+    → (listReply t ≡ listHead (t .count) ++ joined listed (devicesOf t))
+    × (length (t .devices) ≡ MAX-DEVICES → length (devicesOf t) ≡ t .count)
 
 -- ## How long they are
 

@@ -9,7 +9,7 @@ use mathlib.Core.List.{List, _∷_}
 use lib.ListN.{length, take, drop, getD, length-append}
 use Rattle.wire.specs.Fields.{joined}
 use Rattle.exports.specs.declared.device.Device.{Device}
-use Rattle.exports.specs.Devices.{noDevice, MAX-DEVICES, MAX-INTERFACES}
+use Rattle.exports.specs.Devices.{noDevice, MAX-DEVICES}
 use Rattle.listing.specs.Lists.{LIST-HEAD-LEN, few, listed, MAX-LISTED}
 use Rattle.exports.proofs.Walks.{next-of, over-of}
 use Rattle.listing.proofs.list_len.Statement.{statement}
@@ -49,7 +49,7 @@ cast-interfaces c = search needs
 returns : tie.Need-returns Inv-loop μ-loop
 returns c =
     let l = c .before .before .before .before in
-    let e : every few (ds l) ≡ false = l .loop .inv .1 ∙ rw (turn (c .before .before .before), lt-leb _ MAX-INTERFACES (c .if1 .taken)) in
+    let e : every few (ds l) ≡ false = l .loop .inv .1 ∙ rw (turn (c .before .before .before), lt-leb _ _ (c .if1 .taken)) in
     (rw e, omega arith)
 
 listed-len-requires : tie.Need-listed-len-requires Inv-loop μ-loop
@@ -72,7 +72,7 @@ loop-again c =
     let d = getD (l .before .args .t1) (l .loop .i) noDevice in
     let rest = drop (l .loop .i + 1) (ds l) in (
       omega arith,
-      l .loop .inv .1 ∙ rw (t, le-leb _ MAX-INTERFACES (e .if1 .left)),
+      l .loop .inv .1 ∙ rw (t, le-leb _ _ (e .if1 .left)),
       omega (arith, rw (t, length-append (listed d) (joined listed rest)) at (l .loop .inv .2), c .listed-len .ensures .0),
       omega (arith, c .listed-len .ensures .1),
     )

@@ -1,6 +1,5 @@
 use Rattle.exports.specs.Rules.{every}
 use borrow.Author.Needs.{needs}
-use borrow.Author.Tests.{leb-true}
 use borrow.Rule.Slice.PartMut.{same-len-mid}
 use Prim.Native.Nat.{ℕ, _≤_, _-_, _+_}
 use native.Mathlib.Omega.{arith}
@@ -17,7 +16,7 @@ use Rattle.listing.specs.Lists.{LIST-HEAD-LEN, few, listed, listHead}
 use mathlib.Core.Bool.{true, and-eq-true-iff}
 use Rattle.exports.specs.declared.device.Device.{Device}
 use Rattle.exports.proofs.Walks.{next-of}
-use Rattle.listing.proofs.Lists.{every-left}
+use Rattle.listing.proofs.Lists.{few-known, every-left}
 use Rattle.listing.proofs.write_list.Statement.{statement}
 use Rattle.listing.proofs.write_list.Tie as tie
 
@@ -110,7 +109,7 @@ write-device-requires c κs =
     let t = c .before .before .before in
     let l = t .before in
     let s = start l in (
-      leb-true _ _ (few-here t),
+      few-known (device l) (few-here t),
       rw (s .pre .bytes) (List·getD-map recordsOf (s .args .t2) (l .loop .i) noDevice),
       rw (length-take, length-drop) (omega (arith, room t)),
     )
