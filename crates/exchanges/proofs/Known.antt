@@ -2,6 +2,7 @@
 use mathlib.Core.Path.{refl}
 use Rattle.exports.specs.Rules.{text, goodDevice}
 use Rattle.tables.specs.Tables.{goodTable}
+use Rattle.tape.specs.Table.{tapeTable}
 use Rattle.records.specs.Records.{deviceRecord}
 use Rattle.importing.specs.Imports.{importReply, importRefusal}
 use Rattle.listing.specs.Lists.{listed, listReply}
@@ -11,5 +12,5 @@ use Rattle.model.specs.Model.{urbOf, bodyOf, submitted, submitting, headed, mes
 use Rattle.exchanges.specs.Exchanges.{Known}
 
 pub known : Known
-unfolding text goodDevice goodTable deviceRecord listed listReply importReply importRefusal decide pick feed urbOf bodyOf submitted submitting headed message requested lookedUp request judge replyTo grow put tell feedOf completeOf openOf
-known = refl
+unfolding text goodDevice goodTable tapeTable deviceRecord listed listReply importReply importRefusal decide pick feed urbOf bodyOf submitted submitting headed message requested lookedUp request judge replyTo grow put tell feedOf completeOf openOf
+known = (refl, refl)

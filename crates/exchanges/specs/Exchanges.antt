@@ -7,8 +7,10 @@ use mathlib.Core.Option.{none, some}
 use lib.ListN.{length, take, replicate}
 use Rattle.wire.specs.BigEndian.{bytesOf}
 use Rattle.wire.specs.Fields.{joined}
-use Rattle.exports.specs.declared.device.Device.{Device}
+use Rattle.wire.specs.Codes.{BUSID-LEN}
+use Rattle.exports.specs.Devices.{MAX-DEVICES}
 use Rattle.exports.specs.declared.device.Table.{Table}
+use Rattle.tape.specs.Table.{padded, tapeDevice, tapeTable}
 use Rattle.verdicts.specs.Limits
 use Rattle.model.specs.Model.{Sess, closed, Numbers, numbersOf, Event, list, import, submit, answer, unlink, break, feedOf, openOf}
 use Rattle.model.specs.Book.{Call, feed, complete}
@@ -17,35 +19,13 @@ use Rattle.pending.specs.declared.urb.Urb.{Urb}
 
 -- ## What is done
 
--- The tables: none exported, and the tape's camera.
-abbrev pub text : List ℕ → ℕ → List ℕ
-text bytes size = bytes ++ replicate (size - length bytes) 0
-
-abbrev pub camera : Device
-camera =
-    record {
-      path = text (0x2f ∷ 0x64 ∷ 0x65 ∷ 0x63 ∷ 0x6b ∷ 0x2f ∷ 0x31 ∷ 0x2d ∷ 0x31 ∷ []) 256;
-      busid = text (0x31 ∷ 0x2d ∷ 0x31 ∷ []) 32;
-      busnum = 1;
-      devnum = 15;
-      speed = 0;
-      idVendor = 0;
-      idProduct = 0;
-      bcdDevice = 0;
-      bDeviceClass = 0;
-      bDeviceSubClass = 0;
-      bDeviceProtocol = 0;
-      bConfigurationValue = 0;
-      bNumConfigurations = 0;
-      bNumInterfaces = 0;
-      interfaces = [];
-    }
-
+-- The tables, with every place of their arrays, as the code has them: the tape's, and one like it that exports nothing.
 abbrev pub nothingExported : Table
-nothingExported = record { devices = []; count = 0 }
+nothingExported = record { devices = replicate MAX-DEVICES tapeDevice; count = 0 }
 
-abbrev pub oneCamera : Table
-oneCamera = record { devices = camera ∷ []; count = 1 }
+-- A busid with zeros behind it.
+abbrev pub busid : List ℕ → List ℕ
+busid bytes = padded BUSID-LEN bytes
 
 -- A feed with buffers of the least sizes, the reply's bytes all 0xee.
 abbrev pub fed : List ℕ → Call
@@ -55,7 +35,7 @@ abbrev pub words : List ℕ → List ℕ
 words ws = joined (bytesOf 4) ws
 
 abbrev pub importOf : List ℕ → Call
-importOf busid = fed (0x01 ∷ 0x11 ∷ 0x80 ∷ 0x03 ∷ 0 ∷ 0 ∷ 0 ∷ 0 ∷ text busid 32)
+importOf name = fed (0x01 ∷ 0x11 ∷ 0x80 ∷ 0x03 ∷ 0 ∷ 0 ∷ 0 ∷ 0 ∷ busid name)
 
 abbrev pub attached : Call
 attached = importOf (0x31 ∷ 0x2d ∷ 0x31 ∷ [])
@@ -143,20 +123,20 @@ exchanges =
     }
     -- an unknown busid
     ∷ record {
-      table = oneCamera;
+      table = tapeTable;
       before = [];
       last = importOf (0x31 ∷ 0x2d ∷ 0x32 ∷ []);
       seen = record { event = import 1; bytes = reply (0x01 ∷ 0x11 ∷ 0x00 ∷ 0x03 ∷ 0 ∷ 0 ∷ 0 ∷ 1 ∷ []); closed = true; numbers = counts 0 0 0 0 0 };
     }
     -- CmdIntrIN for the attached device, and for another
     ∷ record {
-      table = oneCamera;
+      table = tapeTable;
       before = attached ∷ [];
       last = intrIn 0xd05 0x0001000f 1 64;
       seen = record { event = submit (intrUrb 1 0xd05 1 64); bytes = reply []; closed = false; numbers = counts 1 1 0 0 0 };
     }
     ∷ record {
-      table = oneCamera;
+      table = tapeTable;
       before = attached ∷ [];
       last = intrIn 0xd05 0x0001000e 1 64;
       seen =
@@ -169,7 +149,7 @@ exchanges =
     }
     -- an unlink of a pending seqnum, and the same again
     ∷ record {
-      table = oneCamera;
+      table = tapeTable;
       before = attached ∷ intrIn 0xd05 0x0001000f 1 64 ∷ [];
       last = unlinkOf 0xd07 0xd05;
       seen =
@@ -181,7 +161,7 @@ exchanges =
           };
     }
     ∷ record {
-      table = oneCamera;
+      table = tapeTable;
       before = attached ∷ intrIn 0xd05 0x0001000f 1 64 ∷ unlinkOf 0xd07 0xd05 ∷ [];
       last = unlinkOf 0xd07 0xd05;
       seen =
@@ -194,26 +174,26 @@ exchanges =
     }
     -- the greatest transfer length, and one more
     ∷ record {
-      table = oneCamera;
+      table = tapeTable;
       before = attached ∷ [];
       last = intrIn 0xd05 0x0001000f 1 16384;
       seen = record { event = submit (intrUrb 1 0xd05 1 16384); bytes = reply []; closed = false; numbers = counts 1 1 0 0 0 };
     }
     ∷ record {
-      table = oneCamera;
+      table = tapeTable;
       before = attached ∷ intrIn 0xd05 0x0001000f 1 64 ∷ [];
       last = intrIn 0xd06 0x0001000f 1 16385;
       seen = record { event = break 14 (1 ∷ []); bytes = reply []; closed = true; numbers = counts 1 0 0 0 1 };
     }
     -- the highest endpoint, and one more
     ∷ record {
-      table = oneCamera;
+      table = tapeTable;
       before = attached ∷ [];
       last = intrIn 0xd05 0x0001000f 15 64;
       seen = record { event = submit (intrUrb 1 0xd05 15 64); bytes = reply []; closed = false; numbers = counts 1 1 0 0 0 };
     }
     ∷ record {
-      table = oneCamera;
+      table = tapeTable;
       before = attached ∷ [];
       last = intrIn 0xd05 0x0001000f 16 64;
       seen =
@@ -226,13 +206,13 @@ exchanges =
     }
     -- the 32nd pending, the 33rd, and after one return again
     ∷ record {
-      table = oneCamera;
+      table = tapeTable;
       before = attached ∷ submits 31 1;
       last = intrIn 32 0x0001000f 1 64;
       seen = record { event = submit (intrUrb 32 32 1 64); bytes = reply []; closed = false; numbers = counts 32 32 0 0 0 };
     }
     ∷ record {
-      table = oneCamera;
+      table = tapeTable;
       before = attached ∷ submits 32 1;
       last = intrIn 33 0x0001000f 1 64;
       seen =
@@ -244,13 +224,17 @@ exchanges =
           };
     }
     ∷ record {
-      table = oneCamera;
+      table = tapeTable;
       before = attached ∷ submits 32 1 ++ (returns 7 ∷ []);
       last = intrIn 33 0x0001000f 1 64;
       seen = record { event = submit (intrUrb 33 33 1 64); bytes = reply []; closed = false; numbers = counts 33 32 1 0 0 };
     }
     ∷ []
 
--- Each exchange is seen as 01 says.
+-- How many places a case's table has.
+abbrev pub places : Exchange → ℕ
+places x = length (x .table .devices)
+
+-- Each exchange is seen as 01 says, over a table that the code can have.
 abbrev pub Known : Type 0
-Known = map seenOf exchanges ≡ map said exchanges
+Known = (map seenOf exchanges ≡ map said exchanges) × (map places exchanges ≡ replicate (length exchanges) MAX-DEVICES)
