@@ -11,7 +11,7 @@ use lib.ListN.{length, take}
 use lib.Seq.{take-add}
 use borrow.Author.Tests.{eqb-true}
 use Rattle.wire.specs.Codes.{HEADER-LEN, DIR-IN}
-use Rattle.transmit.specs.Part.{next, segments, partOf, wireLength, replyOf, sentAfter, outAfter, Sends}
+use Rattle.transmit.specs.Part.{next, segments, partOf, wireLength, replyOf, sentAfter, outAfter, Sends, SentWhole, ReplySent}
 use Rattle.transmit.proofs.Segments.{next-in-place, next-within, next-at-most, next-advances, next-empty-iff}
 use Rattle.transmit.proofs.Parts.{flatten-segments, segments-length, part-next}
 
@@ -46,17 +46,13 @@ segments-sent ss =
     }
 
 -- a header and data
-pub sent-whole : (header frame : List ℕ) (n : ℕ) → HEADER-LEN ≤ length header → n ≤ length frame
-    → Sends (partOf header frame n) (take HEADER-LEN header ++ take n frame) (HEADER-LEN + n)
+pub sent-whole : SentWhole
 sent-whole header frame n h f =
     subst₃ Sends (λ i sent most. sym (part-next header frame n h f sent most) i) (flatten-segments header frame n)
     (segments-length header frame n h f) (segments-sent (segments header frame n))
 
--- the reply to a completion: the header, and for IN the first `actual` bytes of the data, which are there; else no data
-pub reply-sent : (header frame : List ℕ) (direction actual : ℕ) → HEADER-LEN ≤ length header
-    → (direction ≡ DIR-IN → actual ≤ length frame)
-    → Sends (partOf header frame (wireLength direction actual - HEADER-LEN)) (replyOf header frame direction actual)
-    (wireLength direction actual)
+-- the reply to a completion
+pub reply-sent : ReplySent
 reply-sent header frame direction actual h f = go (eqb direction DIR-IN) refl
   where
     go : (t : Bool) → eqb direction DIR-IN ≡ t

@@ -74,3 +74,14 @@ pub record Sends (send : Sender) (whole : List ℕ) (total : ℕ) : Type 0 where
   pub advances : (most : ℕ → ℕ) → ((k : ℕ) → 1 ≤ most k) → (k : ℕ) → min k total ≤ sentAfter send most k
   pub all-out : (most : ℕ → ℕ) → ((k : ℕ) → 1 ≤ most k) → (k : ℕ) → total ≤ k
       → (sentAfter send most k ≡ total) × (partAt send most k ≡ [])
+
+-- Of a header and data that are long enough, the whole is the header's first 48 bytes and then n of the data.
+abbrev pub SentWhole : Type 0
+SentWhole = (header frame : List ℕ) (n : ℕ) → HEADER-LEN ≤ length header → n ≤ length frame
+    → Sends (partOf header frame n) (take HEADER-LEN header ++ take n frame) (HEADER-LEN + n)
+
+-- Of a completion's reply, sent with n = its length on the wire less 48: the header, and for IN the first actual_length bytes of
+-- the data, which are there; else no data.
+abbrev pub ReplySent : Type 0
+ReplySent = (header frame : List ℕ) (direction actual : ℕ) → HEADER-LEN ≤ length header → (direction ≡ DIR-IN → actual ≤ length frame)
+    → Sends (partOf header frame (wireLength direction actual - HEADER-LEN)) (replyOf header frame direction actual) (wireLength direction actual)
