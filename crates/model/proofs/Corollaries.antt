@@ -1,21 +1,24 @@
 -- The corollaries of the claim about every list of calls.
-use Prim.Native.Nat.{ℕ, zero, suc, _+_, _-_, _≤_}
+use Prim.Native.Nat.{ℕ, zero, suc, _+_, _-_, _≤_, _<_}
 use native.Mathlib.Omega.{arith}
+use native.Mathlib.Nat.{add-sub-cancel-left}
 use mathlib.Core.Path.{_≡_, refl, sym, ap, subst, _∙_}
 use mathlib.Core.Bool.{Bool, true, false, cond, true≢false}
-use mathlib.Core.List.{List, [], _∷_, _++_, append-assoc, List·Memᴰ, List·Memᴰ·not-nil, List·Memᴰ·cases-cons}
+use mathlib.Core.List.{List, [], _∷_, _++_, append-nil, append-assoc, List·Memᴰ, List·Memᴰ·not-nil, List·Memᴰ·cases-cons}
 use mathlib.Core.Logic.{_⊎_, inl, inr, ⊎-elim}
 use mathlib.Core.Option.{some}
-use lib.Dec.{eqb}
+use lib.Dec.{eqb, ltb}
 use lib.ListN.{length, take, drop, getD, length-append, length-drop, take-append-drop}
-use lib.Seq.{length-take-le, take-all, take-take, take-append-le, take-append-add, drop-append-le, append-snoc}
-use borrow.Author.Tests.{eq-eqb}
+use lib.Seq.{length-take-le, take-all, take-at, take-take, take-append-le, take-append-add, drop-append-le, append-snoc}
+use borrow.Author.Tests.{eq-eqb, ne-eqb, ltb-true, ltb-false}
 use Rattle.wire.specs.Codes
 use Rattle.wire.specs.BigEndian.{numberOf}
 use Rattle.messages.specs.Messages.{requestOf, busidOf, commandOf, submitOf}
 use Rattle.exports.specs.Devices.{noDevice, devicesOf}
 use Rattle.lookup.specs.Lookup.{First}
 use Rattle.exports.specs.declared.device.Table.{Table}
+use Rattle.transmit.specs.Part.{partOf, wireLength, Sends}
+use Rattle.transmit.proofs.Whole.{sent-whole}
 use Rattle.pending.specs.Pending.{ticketOf, tickets}
 use Rattle.verdicts.specs.Limits
 use Rattle.verdicts.specs.Rows.{Row, Gives, Clear}
@@ -24,7 +27,7 @@ use Rattle.model.specs.Machine.{Fed}
 use Rattle.model.specs.Model.{Sess, Event, hungry, list, import, submit, answer, unlink, break, refusal, return, end, unlinked, urbOf, Buffers, Completion, grow, put, feedBytes, feedTests, idleFeed, feedOf, completeOf, closeOf, Open, openOf, between, devidOf}
 use Rattle.model.specs.Book.{Call, feed, complete, close, Book, opened, Item, item, pending, over, took, keepEvent, keep, pendingOf, None}
 use Rattle.model.specs.Claims.{answerTo, nextOf, header, sizeOf, feedRows, completeRows, closeRows, messageRows, submitRows, RightFeed, RightComplete, RightRequest, RightMessage, byPhase, Agrees, Right, Tickets, Grown, Moves, Stays, Attaches, consumed, Holds}
-use Rattle.model.specs.Corollaries.{sessionAfter, bookAfter, sessionFrom, bookFrom, Opens, OpenIff, ByTable, RefusedIff, Refused, LateTicket, Ended, EndedTicket, CancelledTicket, AttachedTo, AnsweredStays, EmptyPiece, Ready, Verdict, AcceptIff, requestSize, messageSize, UpTo, RequestUses, MessageUses, Consumption}
+use Rattle.model.specs.Corollaries.{sessionAfter, bookAfter, sessionFrom, bookFrom, Opens, OpenIff, ByTable, RefusedIff, Refused, LateTicket, Ended, EndedTicket, CancelledTicket, headerFor, Sent, CompletionSent, AttachedTo, AnsweredStays, EmptyPiece, Ready, Verdict, AcceptIff, requestSize, messageSize, UpTo, RequestUses, MessageUses, Consumption}
 use Rattle.tables.proofs.Good.{good-iff}
 use Rattle.model.proofs.Facts.{differ, grown-refl, grown-trans, ended-stays}
 use Rattle.verdicts.proofs.Match.{gives, clear}
@@ -117,6 +120,14 @@ refused-iff t cs =
 
 -- ## A late ticket
 
+-- what isn't less
+not-less : (a b : ℕ) → (a < b → ⊥) → b ≤ a
+not-less a b h = at (ltb a b) refl
+  where
+    at : (c : Bool) → ltb a b ≡ c → b ≤ a
+    at true e = absurd (h (ltb-true a b e))
+    at false e = ltb-false a b e
+
 which-of : (b : Book) (c : Completion) (n : ℕ) → None (b .items) ticketOf (c .ticket) → Gives (completeRows b c) n
     → (n ≡ Limits.SESSION-CLOSED) ⊎ ((n ≡ Limits.SHORT-BUFFER) ⊎ (n ≡ Limits.NOT-PENDING))
 which-of b c n h g =
@@ -134,6 +145,46 @@ late s b c r h =
 
 pub late-ticket : LateTicket
 late-ticket t cs c h = late (sessionFrom t cs) (bookFrom t cs) c (right-from t cs (complete c) .1) h
+
+-- ## Sending
+
+-- what goes out, by what the header starts with
+sends-front : (h bytes frame : List ℕ) (n : ℕ) → take Codes.HEADER-LEN h ≡ bytes → Codes.HEADER-LEN ≤ length h → n ≤ length frame
+    → Sends (partOf h frame n) (bytes ++ take n frame) (Codes.HEADER-LEN + n)
+sends-front h bytes frame n e l f = subst (λ (x : List ℕ). Sends (partOf h frame n) (x ++ take n frame) (Codes.HEADER-LEN + n)) e (sent-whole h frame n l f)
+
+sends-bare : (h bytes frame : List ℕ) → take Codes.HEADER-LEN h ≡ bytes → Codes.HEADER-LEN ≤ length h → Sends (partOf h frame 0) bytes Codes.HEADER-LEN
+sends-bare h bytes frame e l =
+    subst (λ (x : List ℕ). Sends (partOf h frame 0) x Codes.HEADER-LEN) (append-nil bytes) (sends-front h bytes frame 0 e l (omega arith))
+
+-- the header of an accepted completion, sent
+sent : (s : Sess) (b : Book) (c : Completion) (wire : ℕ) → RightComplete s b c → completeOf s c .event ≡ return wire → Sent (b .items) c wire (completeOf s c .header)
+sent s b c wire r e =
+    let a = r .accepted (λ n h. differ (cc)) in
+    let y = a .0 in
+    let u = a .1 .0 in
+    let d = u .transfer .direction in
+    let w : wire ≡ wireLength d (c .actual) = let z : return wire ≡ return (wireLength d (c .actual)) = sym e ∙ a .1 .3 in cc in
+    let room : Codes.HEADER-LEN ≤ length (c .header) = not-less (length (c .header)) Codes.HEADER-LEN (y .1 .0) in
+    let long : Codes.HEADER-LEN ≤ length (completeOf s c .header) = rw (a .1 .4) (omega (arith, length-append (headerFor u c) (drop Codes.HEADER-LEN (c .header)))) in
+    let front : take Codes.HEADER-LEN (completeOf s c .header) ≡ headerFor u c = rw (a .1 .4) (take-at (headerFor u c) (drop Codes.HEADER-LEN (c .header)) Codes.HEADER-LEN refl) in
+    record {
+      urb = u;
+      held = a .1 .1;
+      named = a .1 .2;
+      reads =
+          λ h.
+          let n : wire - Codes.HEADER-LEN ≡ c .actual = rw (w, eq-eqb d Codes.DIR-IN h) (add-sub-cancel-left Codes.HEADER-LEN (c .actual)) in
+          let f : c .actual ≤ length (c .frame) = not-less (length (c .frame)) (c .actual) (λ k. y .1 .1 .1 .1 .1 .0 (u, a .1 .1, a .1 .2, (h, k))) in
+          rw n (sends-front (completeOf s c .header) (headerFor u c) (c .frame) (c .actual) front long f);
+      writes =
+          λ h.
+          let n : wire - Codes.HEADER-LEN ≡ 0 = rw (w, ne-eqb d Codes.DIR-IN h) in
+          rw n (sends-bare (completeOf s c .header) (headerFor u c) (c .frame) front long);
+    }
+
+pub completion-sent : CompletionSent
+completion-sent t cs c wire e = sent (sessionFrom t cs) (bookFrom t cs) c wire (right-from t cs (complete c) .1) e
 
 -- tickets are counted, so they rise
 ticket-low : (k : ℕ) (is : List Item) (i : Item) → Tickets k is → List·Memᴰ i is → k ≤ ticketOf (i .urb)

@@ -86,7 +86,7 @@ draining s b ps h = rw (drained s b ps h) (Cutting.all-used grow put judge after
 -- ## With the replies
 
 abbrev judgeA : Sess → Answer
-judgeA s = record { event = judge s; reply = replyTo s (judge s) }
+judgeA s = record { event = judge s; reply = replyTo s (judge s); length = length (replyTo s (judge s)) }
 
 abbrev afterA : Sess → Answer → Sess
 afterA s a = after s (a .event)
@@ -95,7 +95,7 @@ abbrev tellA : Sess → Answer → Buffers → Buffers
 tellA s a b = tell s (a .event) b
 
 abbrev hungryA : Answer
-hungryA = record { event = Model.hungry; reply = [] }
+hungryA = record { event = Model.hungry; reply = []; length = 0 }
 
 abbrev quietA : Answer → Bool
 quietA a = isHungry (a .event)

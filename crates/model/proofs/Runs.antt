@@ -27,7 +27,7 @@ use Rattle.model.specs.Machine.{Fed}
 use Rattle.model.specs.Model.{Sess, closed, Event, hungry, list, import, submit, answer, unlink, break, refusal, return, end, isHungry, theUrb}
 use Rattle.model.specs.Model.{act, between, after, deviceOf, lookedUp, devidOf, effectOf, add, settle, drop-all, shut, unlinked, returned, judge, grow, put, replyTo, importBytes, Buffers, feedBytes, feedTests, feedOf, idleFeed, Completion, completeTests, Complete, completeOf, Close, closeOf, Open, openOf, fresh, noTable}
 use Rattle.model.specs.Book.{Call, feed, complete, close, Book, opened, apply, cleared, took, keepEvent, keep, pendingOf, Pending}
-use Rattle.model.specs.Cut.{stepAll}
+use Rattle.model.specs.Cut.{stepAll, replied, written}
 use Rattle.model.specs.Claims.{answerTo, nextOf, header, feedRows, completeRows, closeRows, RightRequest, RightMessage, byPhase, Replies, placeOf, dataIn, Right, Agrees, Grown, Moves, givenIn, Parts, Attaches, consumed, Holds, Demand3}
 use Rattle.model.proofs.Facts.{differ, sum, grown-refl, tickets-rise, find-key, find-none, apart-mem, mem-to, mem-from, pending-before}
 use Rattle.verdicts.proofs.Match.{gives, clear}
@@ -219,20 +219,19 @@ module _ (t : Table) (phase devid : ℕ) where
   all-in (x ∷ xs) b = rw (grow-is t phase devid b x) (all-in xs (took b (x ∷ [])) ∙ ap (λ m. at (with-part b m)) (append-snoc (b .part) x xs))
 
   -- its reply to an event that is right by those bytes
-  module _ (b : Book) (m lent : List ℕ) where
-    abbrev left : Event → List ℕ
-    left e = over (replyTo (at (with-part b m)) e) lent
+  module _ (b : Book) (m : List ℕ) where
+    abbrev reply-to : Event → List ℕ
+    reply-to e = replyTo (at (with-part b m)) e
 
-    import-is : (st : ℕ) → RightAt b m (import st) → Replies t m (import st) lent (left (import st))
+    import-is : (st : ℕ) → RightAt b m (import st) → Replies t m (import st) (reply-to (import st))
     unfolding replyTo lookedUp
     import-is st r =
         let f = find-first t (busidOf (header m)) in
-        let bytes : Found → List ℕ = λ o. over (importBytes t o) lent in
-        ⊎-elim (λ p. subst (λ (k : ℕ). Replies t m (import k) lent (left (import st))) (sym (p .0)) (p .1, p .2, ap bytes (f .0 (p .1) .1 (p .2))))
-        (λ p. subst (λ (k : ℕ). Replies t m (import k) lent (left (import st))) (sym (p .0)) (ap bytes (f .1 .1 (p .1))))
+        ⊎-elim (λ p. subst (λ (k : ℕ). Replies t m (import k) (reply-to (import st))) (sym (p .0)) (p .1, p .2, ap (importBytes t) (f .0 (p .1) .1 (p .2))))
+        (λ p. subst (λ (k : ℕ). Replies t m (import k) (reply-to (import st))) (sym (p .0)) (ap (importBytes t) (f .1 .1 (p .1))))
         (asked (eqb phase Limits.WAITING) r .3)
 
-    reply-is : (e : Event) → (((n : ℕ) → e ≡ refusal n → ⊥) → RightAt b m e) → Replies t m e lent (left e)
+    reply-is : (e : Event) → (((n : ℕ) → e ≡ refusal n → ⊥) → RightAt b m e) → Replies t m e (reply-to e)
     unfolding replyTo
     reply-is hungry r = refl
     reply-is list r = refl
@@ -301,11 +300,15 @@ module _ (t : Table) (phase devid : ℕ) (b : Book) (f : Fit phase b) (g : Going
     feed-holds = by-first FeedHolds (first (feedTests now′ lent)) feed-idle feed-goes
 
     -- the buffers, by the laws of every feed
-    feed-reply : let r = feedOf now′ lent p in Replies t (used-of r) (r .event) (lent .reply) (r .buffers .reply)
+    feed-reply : let r = feedOf now′ lent p in
+        (bytes : List ℕ) × Replies t (used-of r) (r .event) bytes × (r .buffers .reply ≡ over bytes (lent .reply)) × (written now′ p r ≡ length bytes)
     feed-reply =
-        let r = feedOf now′ lent p in
-        rw (untouched now′ lent p .reply, all-in t phase devid (take (r .used) p) b)
-        (reply-is t phase devid b (used-of r) (lent .reply) (r .event) (λ h. feed-holds .told h .1))
+        let r = feedOf now′ lent p in (
+          replied now′ p r,
+          rw (all-in t phase devid (take (r .used) p) b) (reply-is t phase devid b (used-of r) (r .event) (λ h. feed-holds .told h .1)),
+          untouched now′ lent p .reply,
+          refl,
+        )
 
     feed-work : let r = feedOf now′ lent p in r .buffers .work ≡ sets (lent .work) (placeOf (b .part)) (dataIn (b .part) (take (r .used) p))
     feed-work =

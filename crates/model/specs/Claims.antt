@@ -27,6 +27,7 @@ use Rattle.verdicts.specs.Verdicts.{Not}
 use Rattle.verdicts.specs.declared.verdict.Completing.{Completing}
 use Rattle.model.specs.Model.{Sess, numbersOf, closed, Event, hungry, list, import, submit, answer, unlink, break, refusal, return, end}
 use Rattle.model.specs.Model.{End, returned, unlinked, dropped, urbOf, Buffers, Completion, feedOf, completeOf, closeOf, openOf}
+use Rattle.model.specs.Cut.{written}
 use Rattle.model.specs.Book.{Call, feed, complete, close, Answer, Book, opened, Item, item, pending, over as ended, keep, pendingOf, count, countsOf, Pending, Some, None}
 use Rattle.pending.specs.declared.urb.Urb.{Urb}
 
@@ -158,22 +159,22 @@ byPhase false waiting attached = attached
 
 -- ## What each event of a feed writes
 
--- The reply buffer at exit, by the bytes m of the message: "A reply starts at 0 of the reply buffer; bytes past it don't change." A
--- refused submit is answered by a RET_SUBMIT with actual_length 0, start_frame and number_of_packets copied from it.
-abbrev pub Replies : Table → List ℕ → Event → (lent now : List ℕ) → Type 0
-Replies t m hungry lent now = now ≡ lent
-Replies t m list lent now = now ≡ over (listReply t) lent
-Replies t m (import zero) lent now = (i : ℕ) × First (devicesOf t) (busidOf (header m)) i × (now ≡ over (importReply (getD (devicesOf t) i noDevice)) lent)
-Replies t m (import (suc st)) lent now = now ≡ over importRefusal lent
-Replies t m (submit u) lent now = now ≡ lent
-Replies t m (answer q st) lent now =
+-- The bytes of the reply, by the bytes m of the message: none for hungry, an accepted submit, a break and a refusal. A refused
+-- submit is answered by a RET_SUBMIT with actual_length 0, start_frame and number_of_packets copied from it.
+abbrev pub Replies : Table → List ℕ → Event → (bytes : List ℕ) → Type 0
+Replies t m hungry bytes = bytes ≡ []
+Replies t m list bytes = bytes ≡ listReply t
+Replies t m (import zero) bytes = (i : ℕ) × First (devicesOf t) (busidOf (header m)) i × (bytes ≡ importReply (getD (devicesOf t) i noDevice))
+Replies t m (import (suc st)) bytes = bytes ≡ importRefusal
+Replies t m (submit u) bytes = bytes ≡ []
+Replies t m (answer q st) bytes =
     let u = submitOf (header m) in
-    now ≡ over (retSubmit (record { seqnum = q; status = st; actual = 0; frame = u .frame; packets = u .packets })) lent
-Replies t m (unlink q st o) lent now = now ≡ over (retUnlink (record { seqnum = q; status = st })) lent
-Replies t m (break n ts) lent now = now ≡ lent
-Replies t m (refusal n) lent now = now ≡ lent
-Replies t m (return n) lent now = now ≡ lent
-Replies t m (end ts) lent now = now ≡ lent
+    bytes ≡ retSubmit (record { seqnum = q; status = st; actual = 0; frame = u .frame; packets = u .packets })
+Replies t m (unlink q st o) bytes = bytes ≡ retUnlink (record { seqnum = q; status = st })
+Replies t m (break n ts) bytes = bytes ≡ []
+Replies t m (refusal n) bytes = bytes ≡ []
+Replies t m (return n) bytes = bytes ≡ []
+Replies t m (end ts) bytes = bytes ≡ []
 
 -- "OUT data goes to the work buffer at its own position from 0 as it comes": of the bytes xs that come behind a part of a message,
 -- the data are those past the 48th of the message, and their place is how many such there were before.
@@ -197,8 +198,13 @@ pub record RightFeed (s : Sess) (b : Book) (piece : List ℕ) (lent : Buffers) :
       byPhase (eqb (s .phase) Limits.WAITING) (RightRequest (s .table) (b .items) m (r .event)) (RightMessage (s .devid) (b .items) m (r .event)))
   -- a hungry feed consumed all
   pub all : feedOf s lent piece .event ≡ hungry → feedOf s lent piece .used ≡ length piece
-  -- the buffers at exit: the reply, and the data that this call consumed; "nothing else is written there"
-  pub reply : let r = feedOf s lent piece in Replies (s .table) (b .part ++ take (r .used) piece) (r .event) (lent .reply) (r .buffers .reply)
+  -- "A reply starts at 0 of the reply buffer; bytes past it don't change", and the answer gives its length
+  pub reply : let r = feedOf s lent piece in
+      (bytes : List ℕ)
+      × Replies (s .table) (b .part ++ take (r .used) piece) (r .event) bytes
+      × (r .buffers .reply ≡ over bytes (lent .reply))
+      × (written s piece r ≡ length bytes)
+  -- the work buffer at exit: the data that this call consumed; "nothing else is written there"
   pub work : let r = feedOf s lent piece in r .buffers .work ≡ sets (lent .work) (placeOf (b .part)) (dataIn (b .part) (take (r .used) piece))
 
 pub record RightComplete (s : Sess) (b : Book) (c : Completion) : Type 0 where

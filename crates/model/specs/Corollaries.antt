@@ -1,24 +1,26 @@
 -- What follows from the claim about every list of calls, in the words of the mission: a late ticket is refused, a submit is
 -- accepted exactly when the rules allow it, a feed consumes one message; and what opening gives, from which each run starts.
-use Prim.Native.Nat.{ℕ, suc, _+_, _≤_, _<_}
+use Prim.Native.Nat.{ℕ, suc, _+_, _-_, _≤_, _<_}
 use mathlib.Core.Path.{_≡_}
 use mathlib.Core.Bool.{true, false, cond}
 use mathlib.Core.List.{List, [], _∷_, _++_, List·Memᴰ}
 use mathlib.Core.Logic.{_↔_, _⊎_}
 use mathlib.Core.Option.{some}
 use lib.Dec.{eqb}
-use lib.ListN.{length, getD}
+use lib.ListN.{length, take, getD}
 use Rattle.wire.specs.Codes
-use Rattle.messages.specs.Messages.{requestOf, commandOf, submitOf}
+use Rattle.messages.specs.Messages.{requestOf, commandOf, submitOf, retSubmit}
 use Rattle.exports.specs.Devices.{noDevice, devicesOf}
 use Rattle.tables.specs.Tables.{Rules}
 use Rattle.lookup.specs.Lookup.{First}
 use Rattle.exports.specs.declared.device.Table.{Table}
-use Rattle.pending.specs.Pending.{ticketOf, tickets}
+use Rattle.transmit.specs.Part.{partOf, Sends}
+use Rattle.pending.specs.Pending.{ticketOf, seqnumOf, tickets}
 use Rattle.verdicts.specs.Limits
 use Rattle.verdicts.specs.Rows.{Row, Gives, Clear}
+use Rattle.verdicts.specs.Verdicts.{Not}
 use Rattle.model.specs.Model.{Sess, Event, hungry, list, import, submit, answer, unlink, break, refusal, return, end, End, urbOf, devidOf, between, Buffers, Completion, feedOf, completeOf, closeOf, Open, openOf}
-use Rattle.model.specs.Book.{Call, feed, Book, opened, Item, item, over, keep, pendingOf, None}
+use Rattle.model.specs.Book.{Call, feed, Book, opened, Item, item, over, keep, pendingOf, Pending, None}
 use Rattle.model.specs.Claims.{answerTo, nextOf, header, sizeOf, byPhase, feedRows, completeRows, closeRows, messageRows, submitRows}
 use Rattle.pending.specs.declared.urb.Urb.{Urb}
 
@@ -98,6 +100,30 @@ CancelledTicket = (t : Table) (cs later : List Call) (p : List ℕ) (lent : Buff
     → feedOf (sessionFrom t cs) lent p .event ≡ unlink q st (some (c .ticket))
     → let calls = cs ++ (feed p lent ∷ later) in
     Refused (sessionFrom t calls) (bookFrom t calls) c
+
+-- ## Sending
+
+-- The reply to the completion of a URB: RET_SUBMIT under the URB's own seqnum.
+abbrev pub headerFor : Urb → Completion → List ℕ
+headerFor u c =
+    retSubmit (record { seqnum = seqnumOf u; status = c .status; actual = c .actual; frame = u .transfer .frame; packets = u .transfer .packets })
+
+-- After every list of calls: an accepted completion, sent with n = its wire length less 48, puts out exactly the 48 bytes of its own
+-- URB's RET_SUBMIT and, for IN, the first actual_length bytes of the device's data: in order, whatever each step may send, and
+-- within as many steps as there are bytes if each may send one. After the reply to an OUT nothing follows.
+pub record Sent (is : List Item) (c : Completion) (wire : ℕ) (header : List ℕ) : Type 0 where
+  pub urb : Urb
+  pub held : Pending is urb
+  pub named : ticketOf urb ≡ c .ticket
+  pub reads : urb .transfer .direction ≡ Codes.DIR-IN
+      → Sends (partOf header (c .frame) (wire - Codes.HEADER-LEN)) (headerFor urb c ++ take (c .actual) (c .frame)) (Codes.HEADER-LEN + c .actual)
+  pub writes : Not (urb .transfer .direction) Codes.DIR-IN
+      → Sends (partOf header (c .frame) (wire - Codes.HEADER-LEN)) (headerFor urb c) Codes.HEADER-LEN
+
+abbrev pub CompletionSent : Type 0
+CompletionSent = (t : Table) (cs : List Call) (c : Completion) (wire : ℕ)
+    → let r = completeOf (sessionFrom t cs) c in
+    r .event ≡ return wire → Sent (bookFrom t cs .items) c wire (r .header)
 
 -- ## A submit
 

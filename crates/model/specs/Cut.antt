@@ -55,6 +55,10 @@ taken s piece r = stepAll grow s (take (r .used) piece)
 abbrev pub replied : Sess → List ℕ → Fed Sess Event Buffers → List ℕ
 replied s piece r = replyTo (taken s piece r) (r .event)
 
+-- "The answer gives the bytes consumed, the reply's length and the event": the length.
+abbrev pub written : Sess → List ℕ → Fed Sess Event Buffers → ℕ
+written s piece r = length (replied s piece r)
+
 abbrev pub placed : Sess → List ℕ → Fed Sess Event Buffers → List ℕ
 placed s piece r = bodyIn s (take (r .used) piece)
 
@@ -70,13 +74,15 @@ drainedOf s b ps = drainAll feedOf isHungry closed s b ps
 abbrev pub Cutting : Type 0
 Cutting = (s : Sess) (b : Buffers) (ps qs : List (List ℕ)) → Enough b → flatten ps ≡ flatten qs → drainedOf s b ps ≡ drainedOf s b qs
 
--- The same where the caller keeps each reply by itself, too.
+-- The same where the caller keeps each reply by itself, and its length, too.
 pub record Answer : Type 0 where
   pub event : Event
   pub reply : List ℕ
+  pub length : ℕ
 
 abbrev pub answer : Sess → List ℕ → Fed Sess Event Buffers → Fed Sess Answer Buffers
-answer s piece r = record { event = record { event = r .event; reply = replied s piece r }; used = r .used; buffers = r .buffers; next = r .next }
+answer s piece r =
+    record { event = record { event = r .event; reply = replied s piece r; length = written s piece r }; used = r .used; buffers = r .buffers; next = r .next }
 
 unfoldable pub answersOf : Sess → Buffers → List (List ℕ) → Ran Sess Answer Buffers
 answersOf s b ps = drainAll (λ s b piece. answer s piece (feedOf s b piece)) (λ a. isHungry (a .event)) closed s b ps
