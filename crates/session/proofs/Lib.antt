@@ -1,5 +1,6 @@
 -- Why the code is what the definitions say.
 pub mod Opening
 pub mod Writing
+pub mod Carrying
 pub mod Run
 pub mod Demands

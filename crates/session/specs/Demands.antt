@@ -4,13 +4,13 @@ use Rattle.model.specs.Claims
 use Rattle.model.specs.Corollaries
 use Rattle.model.specs.Cut
 use Rattle.exchanges.specs.Exchanges.{Known}
-use Rattle.session.specs.Run.{CodeRun}
+use Rattle.session.specs.Run.{CodeRun, SameStruct, CodeRefuses}
 
 -- "Any bytes from the network and any call from the device side get an answer." No act has a `requires`. A refusal is given
--- exactly when its row of the table holds and none before it; it changes nothing, and every other answer changes just what it
--- says.
+-- exactly when its row of the table holds and none before it; it changes nothing, of the code's struct too, and every other answer
+-- changes just what it says.
 abbrev pub Demand1 : Type 0
-Demand1 = Corollaries.OpenIff × Corollaries.RefusedIff × Corollaries.EmptyPiece × Cut.Untouched × Cut.Keeps
+Demand1 = Corollaries.OpenIff × Corollaries.RefusedIff × Corollaries.EmptyPiece × Cut.Untouched × Cut.Keeps × CodeRefuses
 
 -- "A submit is accepted exactly when our rules allow it .. the stream may be cut anywhere". The starred exchanges are computed.
 abbrev pub Demand2 : Type 0
@@ -24,6 +24,7 @@ Demand2 =
     × Cut.CuttingAnswers
     × Cut.Draining
     × Cut.WorkFree
+    × SameStruct
     × Known
 
 -- "For every list of feeds, completions and closings from a fresh session .. the session agrees with the plain book", of the
