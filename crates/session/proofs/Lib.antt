@@ -3,4 +3,5 @@ pub mod Opening
 pub mod Writing
 pub mod Carrying
 pub mod Run
+pub mod Cuts
 pub mod Demands

@@ -1,9 +1,10 @@
 -- The three demands of the mission, each with the claims that make it up. What an act answers, leaves and writes is its contract
--- in src/act.rt, for every input; the claims here speak of the definitions that those contracts name, and of the code's own runs.
+-- (Acts.antt), for every input; the claims here speak of the definitions that those contracts name, and of the code's own runs.
 use Rattle.model.specs.Claims
 use Rattle.model.specs.Corollaries
 use Rattle.model.specs.Cut
 use Rattle.exchanges.specs.Exchanges.{Known}
+use Rattle.session.specs.Cuts.{CodeCutting}
 use Rattle.session.specs.Run.{CodeRun, SameStruct, CodeRefuses}
 
 -- "Any bytes from the network and any call from the device side get an answer." No act has a `requires`. A refusal is given
@@ -12,7 +13,8 @@ use Rattle.session.specs.Run.{CodeRun, SameStruct, CodeRefuses}
 abbrev pub Demand1 : Type 0
 Demand1 = Corollaries.OpenIff × Corollaries.RefusedIff × Corollaries.EmptyPiece × Cut.Untouched × Cut.Keeps × CodeRefuses
 
--- "A submit is accepted exactly when our rules allow it .. the stream may be cut anywhere". The starred exchanges are computed.
+-- "A submit is accepted exactly when our rules allow it .. the stream may be cut anywhere", also that of the code's own feeds: to the
+-- very struct. The starred exchanges are computed.
 abbrev pub Demand2 : Type 0
 Demand2 =
     Corollaries.AcceptIff
@@ -24,6 +26,7 @@ Demand2 =
     × Cut.CuttingAnswers
     × Cut.Draining
     × Cut.WorkFree
+    × CodeCutting
     × SameStruct
     × Known
 

@@ -2,4 +2,5 @@
 pub mod Views
 pub mod Acts
 pub mod Run
+pub mod Cuts
 pub mod Demands

@@ -102,7 +102,7 @@ pub record Follows (t : Table) (o : Opened) (acts : List Act) : Type 0 where
 abbrev pub CodeRun : Type 0
 CodeRun = (t : Table) (o : Opened) (acts : List Act) → Opens t o → Run (o .session) acts → Follows t o acts
 
--- Two runs of the code after which the definitions have the same session end with the same struct, byte for byte.
+-- Two runs of the code after which the definitions have the same session end with the same struct.
 abbrev pub SameStruct : Type 0
 SameStruct = (t u : Table) (o p : Opened) (acts others : List Act)
     → Opens t o → Run (o .session) acts → Opens u p → Run (p .session) others
