@@ -26,7 +26,7 @@ use Rattle.pending.specs.declared.list.Place.the-variants.{At, Nothing}
 use Rattle.model.proofs.Facts.{mem-found, clash}
 use Rattle.wire.specs.Status.{minus}
 use Rattle.messages.specs.declared.message.Unlink.{Unlink}
-use Rattle.pending.proofs.Laws.{view-length, append-view, append-count}
+use Rattle.pending.proofs.Laws.{view-length, append-view, append-count, append-whole, append-sound, remove-whole, remove-sound, empty-whole, empty-sound}
 use Rattle.pending.specs.declared.urb.Urb.{Urb}
 use Rattle.pending.specs.declared.list.Pending.{Pending}
 use Rattle.verdicts.specs.Limits
@@ -36,52 +36,75 @@ use Rattle.verdicts.proofs.Match.{clear}
 use Rattle.verdicts.proofs.Tables.{submit-match}
 use Rattle.model.specs.Model.{Sess, Event, tell, after, replyTo, between, act, drop-all, lookedUp, urbFrom, urbOf, submitted, unlinks}
 use Rattle.model.specs.Cut.{lent}
-use Rattle.links.specs.Links.{Parts, countsFit, during, viewOf, whole, resting, headed, Attached}
+use Rattle.links.specs.Links.{Parts, countsFit, during, viewOf, whole, resting, headed, Attached, Clean, Padded}
 use Rattle.events.specs.Answers.{eventOf, setupBeside, droppedBeside, ticketsOf}
-use Rattle.events.specs.Plans.{droppedBy, changed, replyBytes, dataOf, plain, Placed, Says, told}
+use Rattle.events.specs.Plans.{droppedBy, changed, leaves, replyBytes, dataOf, plain, Placed, Says, told}
 use Rattle.links.proofs.Fits.{counts-known, even-counts}
 use Rattle.links.proofs.Views.{view-shut, view-attached}
+use Rattle.links.proofs.Tidy.{rest-padded}
 use mathlib.Core.Option.{Option, none, some}
 use native.Mathlib.Nat.{add-zero}
 use native.Mathlib.Numerals.{add-one}
 use Rattle.links.specs.declared.Progress.{Progress}
 use Rattle.events.specs.declared.answer.Event.{Event as Case}
+use Rattle.links.specs.declared.Counts.{Counts}
 use Rattle.links.specs.declared.Link.{Link}
 use Rattle.events.specs.declared.plan.Change.{Change}
+use Rattle.events.specs.declared.plan.Change.the-variants.{Keep, Append, Remove, Clear}
 use Rattle.events.specs.declared.plan.Reply.{Reply}
 use Rattle.events.specs.declared.plan.Plan.{Plan}
 use lib.Seq.{sets}
 
 -- ## The plan
 
-module _ (r : Plan) (t : Table) (l : Pending) (s : Sess) (used : ℕ) (e : Event) where
+-- the list stays clean, whatever the change
+pub changed-clean : (l : Pending) (c : Change) (setup : List ℕ) → Clean l → Clean (changed l c setup)
+changed-clean l Keep setup h = h
+changed-clean l (Append u) setup h = (append-whole l _ (h .0), append-sound l _ (h .1))
+changed-clean l (Remove i) setup h = (remove-whole l i (h .0), remove-sound l i (h .0) (h .1))
+changed-clean l Clear setup h = (empty-whole, empty-sound)
+
+module _ (r : Plan) (t : Table) (o : Link) (l : Pending) (p : Progress) (used : ℕ) (e : Event) where
+  abbrev s : Sess
+  s = during (whole t o l) p
+
   -- part by part
   pub says : eventOf (r .event) (r .setup) (droppedBy l (r .change)) ≡ e → r .setup ≡ setupBeside e → droppedBy l (r .change) ≡ droppedBeside e → r .consumed ≡ used
       → replyBytes t (r .reply) ≡ replyTo s e → Placed t (r .reply) → (r .body ≡ 0) × (r .from ≡ 0) × (r .to ≡ 0)
-      → viewOf (whole t (r .link) (changed l (r .change) (r .setup))) ≡ after s e → Says r t l s used e
+      → viewOf (leaves t l r) ≡ after s e → (Padded p → Padded (r .link .progress)) → r .link .phase ≡ after s e .phase → Says r t o l p used e
   unfolding told tell
-  says p q d u x h z v =
+  says n q d u x h z v f m =
       record {
         placed = h;
         copies = z;
         told =
             λ piece b.
             let w : sets (b .work) (r .body) (dataOf r piece) ≡ b .work = rw (z .0, z .1, z .2) in
-            λ i. record { event = p i; setup = q i; dropped = d i; used = u i; written = length (x i); buffers = lent (w i) (over (x i) (b .reply)); next = v i };
+            λ i. record { event = n i; setup = q i; dropped = d i; used = u i; written = length (x i); buffers = lent (w i) (over (x i) (b .reply)); next = v i };
+        tidy = λ y g. record { list = changed-clean l (r .change) (r .setup) y; head = f g; phase = m ∙ sym (ap (λ (x : Sess). x .phase) v) };
       }
 
   -- an event that nothing stands beside
   pub plainly : (k : Link) (c : Change) (n : Case) (y : Reply) → r ≡ plain k c n used y → eventOf n (replicate Codes.SETUP-LEN 0) (droppedBy l c) ≡ e → setupBeside e ≡ replicate Codes.SETUP-LEN 0 → droppedBy l c ≡ droppedBeside e
-      → replyBytes t y ≡ replyTo s e → Placed t y → viewOf (whole t k (changed l c (replicate Codes.SETUP-LEN 0))) ≡ after s e → Says r t l s used e
-  plainly k c n y a p q d x h v =
-      says (ap (λ (z : Plan). eventOf (z .event) (z .setup) (droppedBy l (z .change))) a ∙ p)
+      → replyBytes t y ≡ replyTo s e → Placed t y → viewOf (whole t k (changed l c (replicate Codes.SETUP-LEN 0))) ≡ after s e → (Padded p → Padded (k .progress)) → k .phase ≡ after s e .phase → Says r t o l p used e
+  plainly k c n y a m q d x h v f w =
+      says (ap (λ (z : Plan). eventOf (z .event) (z .setup) (droppedBy l (z .change))) a ∙ m)
       (ap (λ (z : Plan). z .setup) a ∙ sym q)
       (ap (λ (z : Plan). droppedBy l (z .change)) a ∙ d)
       (ap (λ (z : Plan). z .consumed) a)
       (ap (λ (z : Plan). replyBytes t (z .reply)) a ∙ x)
       (subst (λ (z : Plan). Placed t (z .reply)) (sym a) h)
       (ap (λ (z : Plan). z .body) a, ap (λ (z : Plan). z .from) a, ap (λ (z : Plan). z .to) a)
-      (ap (λ (z : Plan). viewOf (whole t (z .link) (changed l (z .change) (z .setup)))) a ∙ v)
+      (ap (λ (z : Plan). viewOf (leaves t l z)) a ∙ v)
+      (λ g. subst (λ (z : Plan). Padded (z .link .progress)) (sym a) (f g))
+      (ap (λ (z : Plan). z .link .phase) a ∙ w)
+
+  -- and then no message is in progress
+  pub plainly-rests : (k : Link) (c : Change) (n : Case) (y : Reply) (phase devid : ℕ) (d : Counts) → r ≡ plain k c n used y → k ≡ resting phase devid d → phase ≡ after s e .phase
+      → eventOf n (replicate Codes.SETUP-LEN 0) (droppedBy l c) ≡ e → setupBeside e ≡ replicate Codes.SETUP-LEN 0 → droppedBy l c ≡ droppedBeside e
+      → replyBytes t y ≡ replyTo s e → Placed t y → viewOf (whole t (resting phase devid d) (changed l c (replicate Codes.SETUP-LEN 0))) ≡ after s e → Says r t o l p used e
+  plainly-rests k c n y phase devid d a g w m q b x h v =
+      plainly k c n y a m q b x h (ap (λ (z : Link). viewOf (whole t z (changed l c (replicate Codes.SETUP-LEN 0)))) g ∙ v) (λ _. rest-padded k phase devid d g) (ap (λ (z : Link). z .phase) g ∙ w)
 
 -- ## What is pending
 

@@ -16,10 +16,11 @@ use Rattle.pending.specs.declared.list.Pending.{Pending}
 use Rattle.pending.specs.declared.list.Tickets.{Tickets}
 use Rattle.model.specs.Model.{Sess, Event, Buffers, tell, after, replyTo}
 use Rattle.model.specs.Cut.{lent}
-use Rattle.links.specs.Links.{whole, viewOf}
+use Rattle.links.specs.Links.{Parts, during, whole, viewOf, Clean, Padded, Tidy}
 use Rattle.events.specs.Answers.{eventOf, setupBeside, ticketsOf, droppedBeside}
 use Rattle.events.specs.declared.answer.Event.{Event as Case}
 use Rattle.links.specs.declared.Link.{Link}
+use Rattle.links.specs.declared.Progress.{Progress}
 use Rattle.events.specs.declared.plan.Change.{Change}
 use Rattle.events.specs.declared.plan.Change.the-variants.{Keep, Append, Remove, Clear}
 use Rattle.events.specs.declared.plan.Reply.{Reply}
@@ -65,6 +66,10 @@ droppedBy l (Append u) = ticketsOf []
 droppedBy l (Remove i) = ticketsOf []
 droppedBy l Clear = listing (listOf l)
 
+-- The parts of the session that a plan leaves.
+abbrev pub leaves : Table → Pending → Plan → Parts
+leaves t l r = whole t (r .link) (changed l (r .change) (r .setup))
+
 -- The bytes of the piece that go to the work buffer.
 abbrev pub dataOf : Plan → List ℕ → List ℕ
 dataOf r piece = take (r .to - r .from) (drop (r .from) piece)
@@ -79,7 +84,7 @@ carried t l r piece b =
       used = r .consumed;
       written = length (replyBytes t (r .reply));
       buffers = lent (sets (b .work) (r .body) (dataOf r piece)) (over (replyBytes t (r .reply)) (b .reply));
-      next = viewOf (whole t (r .link) (changed l (r .change) (r .setup)));
+      next = viewOf (leaves t l r);
     }
 
 -- A plan that says an event, and nothing of the piece goes to the work buffer.
@@ -96,8 +101,10 @@ Placed t NoDevice = Unit {0}
 Placed t (Returned r) = Unit {0}
 Placed t (Cancelled r) = Unit {0}
 
--- What a plan says in a session, whatever the piece and the buffers are; it copies nothing.
-pub record Says (r : Plan) (t : Table) (l : Pending) (s : Sess) (used : ℕ) (e : Event) : Type 0 where
+-- What a plan says in a session with this message in progress, whatever the piece and the buffers are; it copies nothing, and
+-- what it leaves is tidy if the list and the message are.
+pub record Says (r : Plan) (t : Table) (k : Link) (l : Pending) (p : Progress) (used : ℕ) (e : Event) : Type 0 where
   pub placed : Placed t (r .reply)
   pub copies : (r .body ≡ 0) × (r .from ≡ 0) × (r .to ≡ 0)
-  pub told : (piece : List ℕ) (b : Buffers) → carried t l r piece b ≡ told s b used e
+  pub told : (piece : List ℕ) (b : Buffers) → carried t l r piece b ≡ told (during (whole t k l) p) b used e
+  pub tidy : Clean l → Padded p → Tidy (leaves t l r)

@@ -48,8 +48,11 @@ ghost use Rattle.pending.specs.declared.list.Place.the-variants.{At as Placed};
 ghost use Rattle.verdicts.specs.Limits;
 ghost use Rattle.model.specs.Model;
 ghost use Rattle.model.specs.Model.{breaks, lookedUp, imports, urbFrom, submitted, unlinks};
-ghost use Rattle.links.specs.Links.{countsFit, progressFits, during, viewOf, noProgress, headed, whole, resting, Attached};
-ghost use Rattle.events.specs.Plans.{Says};
+ghost use Rattle.links.specs.Links.{countsFit, progressFits, during, noProgress, headed, whole, resting, Attached};
+ghost use Rattle.events.specs.Plans.{plain, Says};
+ghost use Rattle.events.specs.declared.answer.Event.the-variants.{Refused};
+ghost use Rattle.events.specs.declared.plan.Change.the-variants.{Keep};
+ghost use Rattle.events.specs.declared.plan.Reply.the-variants.{Silent};
 ghost use Rattle.links.specs.declared.Progress.{Progress};
 
 fn no_progress() -> Progress
@@ -77,7 +80,7 @@ pub fn resting_link(phase: u8, devid: u64, counts: Counts) -> Link
 
 // Nothing is said yet: the message goes on.
 pub fn hungry(old: Link, p: Progress, used: usize) -> Plan
-    ensures { λ r. ⌜ ((t : Table) (l : Pending) → countsFit (old .counts) (l .count) ≡ true → progressFits (old .phase) p ≡ true → Says r t l (during (whole t old l) p) used Model.hungry) ⌝ }
+    ensures { λ r. ⌜ ((t : Table) (l : Pending) → countsFit (old .counts) (l .count) ≡ true → progressFits (old .phase) p ≡ true → Says r t old l p used Model.hungry) ⌝ }
 {
     let link = Link { progress: p, ..old };
     plain_plan(link, Change::Keep, Event::Hungry, used, Reply::Silent)
@@ -85,7 +88,7 @@ pub fn hungry(old: Link, p: Progress, used: usize) -> Plan
 
 // The feed is refused, and nothing changes.
 pub fn refused(old: Link, number: u32) -> Plan
-    ensures { λ r. ⌜ ((t : Table) (l : Pending) → Says r t l (viewOf (whole t old l)) 0 (Model.refusal number)) ⌝ }
+    ensures { λ r. ⌜ r ≡ plain old Keep (Refused number) 0 Silent ⌝ }
 {
     plain_plan(old, Change::Keep, Event::Refused(number), 0, Reply::Silent)
 }
@@ -115,7 +118,7 @@ pub fn ended(old: Link, pending: usize) -> Link
 
 // A break: the session is closed, and what is pending dropped.
 pub fn broken(old: Link, pending: usize, number: u32, used: usize) -> Plan
-    ensures { λ r. ⌜ ((t : Table) (l : Pending) (p : Progress) → countsFit (old .counts) pending ≡ true → Whole l → l .count ≡ pending → Says r t l (during (whole t old l) p) used (breaks (during (whole t old l) p) number)) ⌝ }
+    ensures { λ r. ⌜ ((t : Table) (l : Pending) (p : Progress) → countsFit (old .counts) pending ≡ true → Whole l → l .count ≡ pending → Says r t old l p used (breaks (during (whole t old l) p) number)) ⌝ }
 {
     let link = ended(old, pending);
     plain_plan(
@@ -129,7 +132,7 @@ pub fn broken(old: Link, pending: usize, number: u32, used: usize) -> Plan
 
 // A list request: the reply lists the table, and the session is closed.
 pub fn listed(old: Link, used: usize) -> Plan
-    ensures { λ r. ⌜ ((t : Table) (l : Pending) (p : Progress) → Says r t l (during (whole t old l) p) used Model.list) ⌝ }
+    ensures { λ r. ⌜ ((t : Table) (l : Pending) (p : Progress) → Says r t old l p used Model.list) ⌝ }
 {
     let counts = old.counts;
     let link = resting_link(CLOSED, old.devid, counts);
@@ -138,7 +141,7 @@ pub fn listed(old: Link, used: usize) -> Plan
 
 // An import that no device has the busid of: the session is closed.
 fn unknown(old: Link, used: usize) -> Plan
-    ensures { λ r. ⌜ ((t : Table) (l : Pending) (p : Progress) → lookedUp (during (whole t old l) p) ≡ Nothing → Says r t l (during (whole t old l) p) used (Model.import 1)) ⌝ }
+    ensures { λ r. ⌜ ((t : Table) (l : Pending) (p : Progress) → lookedUp (during (whole t old l) p) ≡ Nothing → Says r t old l p used (Model.import 1)) ⌝ }
 {
     let counts = old.counts;
     let link = resting_link(CLOSED, old.devid, counts);
@@ -158,7 +161,7 @@ pub fn device_at(table: Table, at: usize) -> Device
 
 // An import of the device, which stands at a place of the table.
 fn attached(old: Link, d: Device, at: usize, used: usize) -> Plan
-    ensures { λ r. ⌜ ((t : Table) (l : Pending) (p : Progress) → countsFit (old .counts) (l .count) ≡ true → lookedUp (during (whole t old l) p) ≡ At at → at < length (devicesOf t) → d ≡ getD (devicesOf t) at noDevice → Says r t l (during (whole t old l) p) used (Model.import 0)) ⌝ }
+    ensures { λ r. ⌜ ((t : Table) (l : Pending) (p : Progress) → countsFit (old .counts) (l .count) ≡ true → lookedUp (during (whole t old l) p) ≡ At at → at < length (devicesOf t) → d ≡ getD (devicesOf t) at noDevice → Says r t old l p used (Model.import 0)) ⌝ }
 {
     let devid = d.busnum as u64 * 65536 + d.devnum as u64;
     let counts = old.counts;
@@ -174,7 +177,7 @@ fn attached(old: Link, d: Device, at: usize, used: usize) -> Plan
 
 // An import: the reply has the device of the table that has the busid, and the session is attached to it.
 pub fn imported(old: Link, table: Table, head: [u8; HEADER_LEN], used: usize) -> Plan
-    ensures { λ r. ⌜ ((l : Pending) (p : Progress) → countsFit (old .counts) (l .count) ≡ true → busidOf (take (p .filled) (p .head)) ≡ busidOf head → Says r table l (during (whole table old l) p) used (imports (lookedUp (during (whole table old l) p)))) ⌝ }
+    ensures { λ r. ⌜ ((l : Pending) (p : Progress) → countsFit (old .counts) (l .count) ≡ true → busidOf (take (p .filled) (p .head)) ≡ busidOf head → Says r table old l p used (imports (lookedUp (during (whole table old l) p)))) ⌝ }
 {
     let busid = read_busid(head);
     let found = find(table, busid);
@@ -189,7 +192,7 @@ pub fn imported(old: Link, table: Table, head: [u8; HEADER_LEN], used: usize) ->
 
 // A submit is answered with a status, and the session is as it was, with no message in progress.
 fn answered(old: Link, u: Submit, status: u32, used: usize) -> Plan
-    ensures { λ r. ⌜ ((t : Table) (l : Pending) (p : Progress) → Attached (whole t old l) → u ≡ submitOf (take (p .filled) (p .head)) → Says r t l (during (whole t old l) p) used (Model.answer (u .seqnum) status)) ⌝ }
+    ensures { λ r. ⌜ ((t : Table) (l : Pending) (p : Progress) → Attached (whole t old l) → u ≡ submitOf (take (p .filled) (p .head)) → Says r t old l p used (Model.answer (u .seqnum) status)) ⌝ }
 {
     let ret = RetSubmit {
         seqnum: u.seqnum,
@@ -229,7 +232,7 @@ fn transfer_of(ticket: u64, submit: Submit) -> Transfer
 // A submit is accepted, with the next ticket.
 fn accepted(old: Link, u: Submit, used: usize) -> Plan
     requires { ⌜ old .counts .accepted < Limits.LAST-TICKET ⌝ }
-    ensures { λ r. ⌜ ((t : Table) (l : Pending) (p : Progress) → Attached (whole t old l) → Whole l → l .count < MAX-PENDING → Says r t l (during (whole t old l) p) used (Model.submit (urbFrom (suc (old .counts .accepted)) u))) ⌝ }
+    ensures { λ r. ⌜ ((t : Table) (l : Pending) (p : Progress) → Attached (whole t old l) → Whole l → l .count < MAX-PENDING → Says r t old l p used (Model.submit (urbFrom (suc (old .counts .accepted)) u))) ⌝ }
 {
     let c = old.counts;
     let ticket = c.accepted + 1;
@@ -255,7 +258,7 @@ fn accepted(old: Link, u: Submit, used: usize) -> Plan
 
 // A submit is judged: its last byte is in.
 pub fn submitted(old: Link, pending: usize, head: [u8; HEADER_LEN], used: usize) -> Plan
-    ensures { λ r. ⌜ ((t : Table) (l : Pending) (n : ℕ) → Attached (whole t old l) → Whole l → l .count ≡ pending → Says r t l (during (whole t old l) (headed head n)) used (submitted (during (whole t old l) (headed head n)))) ⌝ }
+    ensures { λ r. ⌜ ((t : Table) (l : Pending) (n : ℕ) → Attached (whole t old l) → Whole l → l .count ≡ pending → Says r t old l (headed head n) used (submitted (during (whole t old l) (headed head n)))) ⌝ }
 {
     let u = read_submit(head);
     let verdict = submit_verdict(u, old.devid, pending, old.counts.accepted);
@@ -267,7 +270,7 @@ pub fn submitted(old: Link, pending: usize, head: [u8; HEADER_LEN], used: usize)
 
 // An unlink of the URB that is pending under a ticket, at a place.
 fn removed(old: Link, seqnum: u32, ticket: u64, place: usize, used: usize) -> Plan
-    ensures { λ r. ⌜ ((t : Table) (l : Pending) (p : Progress) → Attached (whole t old l) → Whole l → placeBy ticketOf ticket (listOf l) ≡ Placed place → Says r t l (during (whole t old l) p) used (Model.unlink seqnum (minus Codes.ECONNRESET) (some ticket))) ⌝ }
+    ensures { λ r. ⌜ ((t : Table) (l : Pending) (p : Progress) → Attached (whole t old l) → Whole l → placeBy ticketOf ticket (listOf l) ≡ Placed place → Says r t old l p used (Model.unlink seqnum (minus Codes.ECONNRESET) (some ticket))) ⌝ }
 {
     let ret = RetUnlink {
         seqnum: seqnum,
@@ -292,7 +295,7 @@ fn removed(old: Link, seqnum: u32, ticket: u64, place: usize, used: usize) -> Pl
 
 // An unlink of a seqnum that isn't pending.
 fn missed(old: Link, seqnum: u32, used: usize) -> Plan
-    ensures { λ r. ⌜ ((t : Table) (l : Pending) (p : Progress) → Attached (whole t old l) → Says r t l (during (whole t old l) p) used (Model.unlink seqnum 0 none)) ⌝ }
+    ensures { λ r. ⌜ ((t : Table) (l : Pending) (p : Progress) → Attached (whole t old l) → Says r t old l p used (Model.unlink seqnum 0 none)) ⌝ }
 {
     let ret = RetUnlink {
         seqnum: seqnum,
@@ -323,7 +326,7 @@ fn place_of(list: Pending, ticket: u64) -> usize
 
 // An unlink: the URB that has its unlink_seqnum is removed.
 pub fn unlinked(old: Link, list: Pending, head: [u8; HEADER_LEN], used: usize) -> Plan
-    ensures { λ r. ⌜ ((t : Table) (p : Progress) → Attached (whole t old list) → Says r t list (during (whole t old list) p) used (unlinks (unlinkOf head .seqnum) (findBy seqnumOf (unlinkOf head .target) (listOf list)))) ⌝ }
+    ensures { λ r. ⌜ ((t : Table) (p : Progress) → Attached (whole t old list) → Says r t old list p used (unlinks (unlinkOf head .seqnum) (findBy seqnumOf (unlinkOf head .target) (listOf list)))) ⌝ }
 {
     let u = read_unlink(head);
     let place = list.find_seqnum(u.target);

@@ -4,11 +4,13 @@ use native.Mathlib.Omega.{arith}
 use mathlib.Core.Path.{_≡_, refl, sym, ap, subst, _∙_}
 use mathlib.Core.Bool.{Bool, true, false, cond}
 use mathlib.Core.List.{List, _++_}
-use lib.ListN.{length, take, drop, length-drop, take-append-drop}
-use lib.Seq.{sets, take-all, drop-drop, length-take-le}
+use lib.ListN.{length, take, drop, replicate, length-append, length-drop, take-append-drop}
+use lib.Seq.{sets, take-all, drop-at, drop-drop, length-take-le}
 use borrow.Author.Tests.{lt-ltb, le-leb, ltb-true, ltb-false}
 use lib.Dec.{eqb, ltb}
 use Rattle.wire.specs.Codes
+use Rattle.wire.specs.Writing.{Wrote}
+use Rattle.wire.proofs.Parts.{written-next, over-front}
 use Rattle.messages.specs.Messages.{requestOf, busidOf, commandOf, submitOf, unlinkOf}
 use Rattle.messages.specs.declared.message.Submit.{Submit}
 use Rattle.pending.specs.declared.urb.Urb.{Urb}
@@ -22,9 +24,10 @@ use Rattle.messages.specs.declared.request.Request.{Request}
 use Rattle.verdicts.specs.Limits
 use Rattle.model.specs.Model
 use Rattle.model.specs.Model.{Sess, Event, Buffers, isHungry, judge, bodyOf, imports, lookedUp, requested, breaks, unlinks, submitted, messageTests}
-use Rattle.links.specs.Links.{Parts, during, progressFits, headed}
+use Rattle.links.specs.Links.{Parts, during, whole, progressFits, headed, Padded}
 use Rattle.events.specs.Plans.{told, Said, Says, carried, dataOf}
 use Rattle.feeding.specs.Feeding.{fedFrom, Filled, Feeds}
+use Rattle.links.specs.declared.Link.{Link}
 use Rattle.links.specs.declared.Progress.{Progress}
 use Rattle.events.specs.declared.plan.Plan.{Plan}
 use Rattle.exports.specs.declared.device.Table.{Table}
@@ -52,6 +55,33 @@ request-front head n l e =
     let c = field-stays 2 Codes.CODE-AT (take n head) (drop n head) (omega arith) in
     let both : requestOf (take n head ++ drop n head) ≡ requestOf (take n head) = λ i. record { version = v i; code = c i } in
     sym both ∙ ap requestOf (take-append-drop n head)
+
+drop-same : {A : Type 0} (x : A) (m n : ℕ) → drop m (replicate n x) ≡ replicate (n - m) x
+drop-same {A = A} x zero n = let e : n ≡ n - 0 = omega arith in ap (λ (k : ℕ). replicate k x) e
+drop-same {A = A} x (suc m) zero = let e : 0 ≡ 0 - suc m = omega arith in ap (λ (k : ℕ). replicate k x) e
+drop-same {A = A} x (suc m) (suc n) = let e : n - m ≡ suc n - suc m = omega arith in drop-same x m n ∙ ap (λ (k : ℕ). replicate k x) e
+
+-- bytes written behind the filled ones leave zeros behind themselves
+pub filled-padded : (p : Progress) (xs ys : List ℕ) (count : ℕ) → p .filled + length xs ≤ Codes.HEADER-LEN → Wrote xs (take (Codes.HEADER-LEN - p .filled) (drop (p .filled) (p .head))) ys count → Padded p
+    → Padded (record { head = take (p .filled) (p .head) ++ (ys ++ drop (Codes.HEADER-LEN - p .filled) (drop (p .filled) (p .head))); filled = p .filled + length xs; body = p .body })
+filled-padded p xs ys count h w z =
+    let front = take (p .filled) (p .head) in
+    let k : length front ≡ p .filled = length-take-le (p .filled) (p .head) (omega (arith, z .size)) in
+    let n : length (front ++ xs) ≡ p .filled + length xs = length-append front xs ∙ rw k in
+    let o = written-next (p .head) (p .head) front xs ys (p .filled) Codes.HEADER-LEN count (z .size) k (sym (over-front (p .filled) (p .head) (omega (arith, z .size)))) h w in
+    let e : Codes.HEADER-LEN - p .filled - length xs ≡ Codes.HEADER-LEN - (p .filled + length xs) = omega arith in
+    record {
+      size = ap length o ∙ rw (length-append (front ++ xs) (drop (length (front ++ xs)) (p .head)), length-drop (length (front ++ xs)) (p .head), n) (omega (arith, z .size));
+      fits = h;
+      free =
+          ap (drop (p .filled + length xs)) o
+          ∙ drop-at (front ++ xs) (drop (length (front ++ xs)) (p .head)) (p .filled + length xs) n
+          ∙ ap (λ (m : ℕ). drop m (p .head)) n
+          ∙ sym (drop-drop (length xs) (p .filled) (p .head))
+          ∙ ap (drop (length xs)) (z .free)
+          ∙ drop-same 0 (length xs) (Codes.HEADER-LEN - p .filled)
+          ∙ ap (λ (m : ℕ). replicate m 0) e;
+    }
 
 -- ## A message that goes on
 
@@ -171,8 +201,8 @@ module _ (s : Parts) (p q : Progress) (piece : List ℕ) (at end : ℕ) (b : Buf
     away : s .link .phase ≡ Limits.WAITING → ⊥
     away k = omega (arith, w, k)
 
-    whole : take (q .filled) (q .head) ≡ q .head
-    whole = take-all (q .filled) (q .head) (rw (now-filled Codes.HEADER-LEN h (omega arith) e, lq) (omega arith))
+    all-in : take (q .filled) (q .head) ≡ q .head
+    all-in = take-all (q .filled) (q .head) (rw (now-filled Codes.HEADER-LEN h (omega arith) e, lq) (omega arith))
 
     pub header-is : during s q ≡ during s (headed (q .head) 0)
     header-is = rw (now-filled Codes.HEADER-LEN h (omega arith) e, f .2, z)
@@ -185,7 +215,7 @@ module _ (s : Parts) (p q : Progress) (piece : List ℕ) (at end : ℕ) (b : Buf
 
     pub header-breaks : (n : ℕ) → first (messageTests (q .head) (listOf (s .pending))) ≡ some n → Comes (told (during s q) b end (breaks (during s q) n))
     header-breaks n t =
-        said Codes.HEADER-LEN h (omega arith) e calm (breaks (during s q) n) (at-header ∙ message-bad (during s q) n (rw whole t)) refl
+        said Codes.HEADER-LEN h (omega arith) e calm (breaks (during s q) n) (at-header ∙ message-bad (during s q) n (rw all-in t)) refl
 
     module _ (t : first (messageTests (q .head) (listOf (s .pending))) ≡ none) where
       pub header-unlinks : (commandOf (q .head) ≡ Codes.CMD-SUBMIT → ⊥)
@@ -193,16 +223,16 @@ module _ (s : Parts) (p q : Progress) (piece : List ℕ) (at end : ℕ) (b : Buf
       header-unlinks c =
           let u = unlinkOf (q .head) in
           let o = findBy seqnumOf (u .target) (listOf (s .pending)) in
-          said Codes.HEADER-LEN h (omega arith) e calm (unlinks (u .seqnum) o) (at-header ∙ message-unlink (during s q) (rw whole t) (rw whole c) ∙ rw whole) (unlink-told (u .seqnum) o)
+          said Codes.HEADER-LEN h (omega arith) e calm (unlinks (u .seqnum) o) (at-header ∙ message-unlink (during s q) (rw all-in t) (rw all-in c) ∙ rw all-in) (unlink-told (u .seqnum) o)
 
       pub header-submits : commandOf (q .head) ≡ Codes.CMD-SUBMIT → bodyOf (q .head) ≡ 0 → Comes (told (during s (headed (q .head) 0)) b end (submitted (during s (headed (q .head) 0))))
       header-submits c k =
-          said Codes.HEADER-LEN h (omega arith) e calm (submitted (during s q)) (at-header ∙ message-whole (during s q) (rw whole t) (rw whole c) (rw whole (k ∙ sym (f .2 ∙ z)))) (submit-told (during s q))
+          said Codes.HEADER-LEN h (omega arith) e calm (submitted (during s q)) (at-header ∙ message-whole (during s q) (rw all-in t) (rw all-in c) (rw all-in (k ∙ sym (f .2 ∙ z)))) (submit-told (during s q))
           ∙ ap (λ (x : Sess). told x b end (submitted x)) header-is
 
       pub header-goes-on-to : commandOf (q .head) ≡ Codes.CMD-SUBMIT → 0 < bodyOf (q .head) → Comes (fedFrom end (during s q) b (drop end piece))
       header-goes-on-to c k =
-          on Codes.HEADER-LEN h (omega arith) e calm (at-header ∙ message-body (during s q) (rw whole t) (rw whole c) (rw (whole, f .2, z) k))
+          on Codes.HEADER-LEN h (omega arith) e calm (at-header ∙ message-body (during s q) (rw all-in t) (rw all-in c) (rw (all-in, f .2, z) k))
 
 pub header-tests : (head : List ℕ) (us : List Urb) (command : ℕ) (u : Submit) (taken : Bool) → command ≡ commandOf head → u ≡ submitOf head → taken ≡ found (findBy seqnumOf (u .seqnum) us)
     → Verdicts.messageTests command u taken ≡ messageTests head us
@@ -295,14 +325,15 @@ fits-body phase q w h l b = rw (w, h, le-leb (bodyOf (q .head)) Limits.MAX-TRANS
 -- ## The plan of a part
 
 -- a plan that copies nothing
-pub feeds : (r : Plan) (t : Table) (l : Pending) (at : ℕ) (s s′ : Sess) (piece : List ℕ) (used : ℕ) (e : Event) → Says r t l s′ used e
-    → ((b : Buffers) → fedFrom at s b (drop at piece) ≡ told s′ b used e) → Feeds r t l at s piece
-feeds r t l at s s′ piece used e y h =
+pub feeds : (r : Plan) (t : Table) (k : Link) (l : Pending) (at : ℕ) (p q : Progress) (piece : List ℕ) (used : ℕ) (e : Event) → Says r t k l q used e → (Padded p → Padded q)
+    → ((b : Buffers) → fedFrom at (during (whole t k l) p) b (drop at piece) ≡ told (during (whole t k l) q) b used e) → Feeds r t k l at p piece
+feeds r t k l at p q piece used e y z h =
     record {
       placed = y .placed;
       inside = omega (arith, y .copies .2);
       room = omega (arith, y .copies .0, y .copies .1, y .copies .2);
       fed = λ b. y .told piece b ∙ sym (h b);
+      tidy = λ c f. y .tidy c (z f);
     }
 
 -- the same plan with data
@@ -310,10 +341,11 @@ abbrev withData : Plan → ℕ → ℕ → ℕ → Plan
 withData r body from to =
     record { link = r .link; change = r .change; event = r .event; consumed = r .consumed; reply = r .reply; body = body; from = from; to = to; setup = r .setup }
 
-pub feeds-data : (r : Plan) (t : Table) (l : Pending) (at : ℕ) (s s′ : Sess) (piece : List ℕ) (used body to : ℕ) (e : Event) → Says r t l s′ used e → to ≤ length piece → body + (to - at) ≤ Limits.WORK-LEN
-    → ((b : Buffers) → fedFrom at s b (drop at piece) ≡ told s′ (lent (sets (b .work) body (take (to - at) (drop at piece))) (b .reply)) used e)
-    → Feeds (withData r body at to) t l at s piece
-feeds-data r t l at s s′ piece used body to e y i m h =
+pub feeds-data : (r : Plan) (t : Table) (k : Link) (l : Pending) (at : ℕ) (p q : Progress) (piece : List ℕ) (used body to : ℕ) (e : Event) → Says r t k l q used e → (Padded p → Padded q)
+    → to ≤ length piece → body + (to - at) ≤ Limits.WORK-LEN
+    → ((b : Buffers) → fedFrom at (during (whole t k l) p) b (drop at piece) ≡ told (during (whole t k l) q) (lent (sets (b .work) body (take (to - at) (drop at piece))) (b .reply)) used e)
+    → Feeds (withData r body at to) t k l at p piece
+feeds-data r t k l at p q piece used body to e y f i m h =
     record {
       placed = y .placed;
       inside = i;
@@ -325,9 +357,11 @@ feeds-data r t l at s s′ piece used body to e y i m h =
           let x = carried t l r piece (lent w (b .reply)) in
           (λ i. record { event = x .event; setup = x .setup; dropped = x .dropped; used = x .used; written = x .written; buffers = lent (z i) (x .buffers .reply); next = x .next })
           ∙ y .told piece (lent w (b .reply)) ∙ sym (h b);
+      tidy = λ c g. y .tidy c (f g);
     }
 
 -- a plan for the rest is a plan for all
-pub feeds-on : (r : Plan) (t : Table) (l : Pending) (end : ℕ) (s′ : Sess) (at : ℕ) (s : Sess) (piece : List ℕ) → Feeds r t l end s′ piece
-    → ((b : Buffers) → fedFrom at s b (drop at piece) ≡ fedFrom end s′ b (drop end piece)) → Feeds r t l at s piece
-feeds-on r t l end s′ at s piece f h = record { placed = f .placed; inside = f .inside; room = f .room; fed = λ b. f .fed b ∙ sym (h b) }
+pub feeds-on : (r : Plan) (t : Table) (k : Link) (l : Pending) (end : ℕ) (q : Progress) (at : ℕ) (p : Progress) (piece : List ℕ) → Feeds r t k l end q piece → (Padded p → Padded q)
+    → ((b : Buffers) → fedFrom at (during (whole t k l) p) b (drop at piece) ≡ fedFrom end (during (whole t k l) q) b (drop end piece)) → Feeds r t k l at p piece
+feeds-on r t k l end q at p piece f z h =
+    record { placed = f .placed; inside = f .inside; room = f .room; fed = λ b. f .fed b ∙ sym (h b); tidy = λ c g. f .tidy c (z g) }

@@ -21,13 +21,13 @@ ghost use Rattle.exports.specs.declared.device.Table.{Table};
 ghost use Rattle.pending.specs.Pending.{Whole};
 ghost use Rattle.pending.specs.declared.list.Pending.{Pending};
 ghost use Rattle.verdicts.specs.Limits;
-ghost use Rattle.links.specs.Links.{countsFit, progressFits, during, whole};
+ghost use Rattle.links.specs.Links.{countsFit, progressFits};
 ghost use Rattle.feeding.specs.Feeding.{Feeds, Plans};
 
 // The plan for the bytes of a session that waits.
 fn plan_waiting(table: Table, link: Link, pending: usize, piece: &[u8]) -> Plan
     requires { ⌜ (countsFit (link .counts) pending ≡ true) × (progressFits (link .phase) (link .progress) ≡ true) × (link .phase ≡ Limits.WAITING) ⌝ }
-    ensures { λ r. ⌜ ((l : Pending) → Whole l → l .count ≡ pending → Feeds r table l 0 (during (whole table link l) (link .progress)) (now (piece .entry))) ⌝ }
+    ensures { λ r. ⌜ ((l : Pending) → Whole l → l .count ≡ pending → Feeds r table link l 0 (link .progress) (now (piece .entry))) ⌝ }
 {
     let p = link.progress;
     if p.filled < OP_LEN {
@@ -39,7 +39,7 @@ fn plan_waiting(table: Table, link: Link, pending: usize, piece: &[u8]) -> Plan
 // The plan for the bytes of a session that is attached.
 fn plan_attached(link: Link, list: Pending, piece: &[u8]) -> Plan
     requires { ⌜ (countsFit (link .counts) (list .count) ≡ true) × (progressFits (link .phase) (link .progress) ≡ true) × (link .phase ≡ Limits.ATTACHED) ⌝ }
-    ensures { λ r. ⌜ ((t : Table) → Feeds r t list 0 (during (whole t link list) (link .progress)) (now (piece .entry))) ⌝ }
+    ensures { λ r. ⌜ ((t : Table) → Feeds r t link list 0 (link .progress) (now (piece .entry))) ⌝ }
 {
     let p = link.progress;
     if p.filled < HEADER_LEN {

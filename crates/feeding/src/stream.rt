@@ -36,7 +36,7 @@ ghost use Rattle.verdicts.specs.Limits;
 ghost use Rattle.verdicts.specs.Tests.{first};
 ghost use Rattle.verdicts.specs.Verdicts.{verdictOf};
 ghost use Rattle.model.specs.Model.{messageTests};
-ghost use Rattle.links.specs.Links.{countsFit, during, whole, Attached};
+ghost use Rattle.links.specs.Links.{countsFit, whole, Attached};
 ghost use Rattle.feeding.specs.Feeding.{Begun, Filled, Feeds};
 
 // More bytes of the header of the message in progress.
@@ -68,7 +68,7 @@ fn is_pending(list: Pending, seqnum: u32) -> bool
 // An import's busid, from a place of the piece on.
 pub(crate) fn feed_import(link: Link, table: Table, p: Progress, piece: &[u8], at: usize) -> Plan
     requires { ⌜ (link .phase ≡ Limits.WAITING) × (p .body ≡ 0) × (Codes.OP-LEN ≤ p .filled) × (p .filled < Codes.OP-LEN + Codes.BUSID-LEN) × (at ≤ length (now piece)) ⌝ }
-    ensures { λ r. ⌜ ((l : Pending) → countsFit (link .counts) (l .count) ≡ true → Feeds r table l at (during (whole table link l) p) (now (piece .entry))) ⌝ }
+    ensures { λ r. ⌜ ((l : Pending) → countsFit (link .counts) (l .count) ≡ true → Feeds r table link l at p (now (piece .entry))) ⌝ }
 {
     let need = OP_LEN + BUSID_LEN - p.filled;
     let len = piece.len();
@@ -85,7 +85,7 @@ pub(crate) fn feed_import(link: Link, table: Table, p: Progress, piece: &[u8], a
 // A request's first 8 bytes.
 pub(crate) fn feed_request(link: Link, table: Table, pending: usize, piece: &[u8]) -> Plan
     requires { ⌜ (countsFit (link .counts) pending ≡ true) × (link .phase ≡ Limits.WAITING) × (link .progress .body ≡ 0) × (link .progress .filled < Codes.OP-LEN) ⌝ }
-    ensures { λ r. ⌜ ((l : Pending) → Whole l → l .count ≡ pending → Feeds r table l 0 (during (whole table link l) (link .progress)) (now (piece .entry))) ⌝ }
+    ensures { λ r. ⌜ ((l : Pending) → Whole l → l .count ≡ pending → Feeds r table link l 0 (link .progress) (now (piece .entry))) ⌝ }
 {
     let p = link.progress;
     let need = OP_LEN - p.filled;
@@ -122,7 +122,7 @@ fn header_verdict(list: Pending, head: [u8; HEADER_LEN]) -> Verdict
 // A submit's data, from a place of the piece on: it goes to the work buffer at its own position.
 pub(crate) fn feed_body(link: Link, pending: usize, p: Progress, piece: &[u8], at: usize) -> Plan
     requires { ⌜ (link .phase ≡ Limits.ATTACHED) × Begun p × (at ≤ length (now piece)) ⌝ }
-    ensures { λ r. ⌜ ((t : Table) (l : Pending) → Attached (whole t link l) → Whole l → l .count ≡ pending → Feeds r t l at (during (whole t link l) p) (now (piece .entry))) ⌝ }
+    ensures { λ r. ⌜ ((t : Table) (l : Pending) → Attached (whole t link l) → Whole l → l .count ≡ pending → Feeds r t link l at p (now (piece .entry))) ⌝ }
 {
     let head = p.head;
     let body = p.body;
@@ -155,7 +155,7 @@ pub(crate) fn feed_body(link: Link, pending: usize, p: Progress, piece: &[u8], a
 // A message's header.
 pub(crate) fn feed_header(link: Link, list: Pending, piece: &[u8]) -> Plan
     requires { ⌜ (countsFit (link .counts) (list .count) ≡ true) × (link .phase ≡ Limits.ATTACHED) × (link .progress .body ≡ 0) × (link .progress .filled < Codes.HEADER-LEN) ⌝ }
-    ensures { λ r. ⌜ ((t : Table) → Feeds r t list 0 (during (whole t link list) (link .progress)) (now (piece .entry))) ⌝ }
+    ensures { λ r. ⌜ ((t : Table) → Feeds r t link list 0 (link .progress) (now (piece .entry))) ⌝ }
 {
     let p = link.progress;
     let need = HEADER_LEN - p.filled;

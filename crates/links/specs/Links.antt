@@ -1,13 +1,13 @@
 -- The link to the client with the table and the pending URBs beside it, as the definitions have them: a session.
-use Prim.Native.Nat.{ℕ, _+_}
+use Prim.Native.Nat.{ℕ, _+_, _-_, _≤_}
 use mathlib.Core.Path.{_≡_}
 use mathlib.Core.Bool.{Bool, true, cond, _&&_, _||_}
 use mathlib.Core.List.{List}
 use lib.Dec.{eqb, leb, ltb}
-use lib.ListN.{take, replicate}
+use lib.ListN.{length, take, drop, replicate}
 use Rattle.wire.specs.Codes
 use Rattle.exports.specs.declared.device.Table.{Table}
-use Rattle.pending.specs.Pending.{MAX-PENDING, listOf}
+use Rattle.pending.specs.Pending.{MAX-PENDING, listOf, Whole, Sound}
 use Rattle.pending.specs.declared.list.Pending.{Pending}
 use Rattle.verdicts.specs.Limits
 use Rattle.model.specs.Model.{Sess, bodyOf}
@@ -103,3 +103,25 @@ Attached s = (countsFit (s .link .counts) (s .pending .count) ≡ true) × (s .l
 -- The session isn't closed, and its parts fit together.
 abbrev pub Live : Parts → Type 0
 Live s = (countsFit (s .link .counts) (s .pending .count) ≡ true) × (progressFits (s .link .phase) (s .link .progress) ≡ true)
+
+-- ## What the view hides
+
+-- The header has its 48 places, and each behind those that are filled is 0.
+pub record Padded (p : Progress) : Type 0 where
+  pub size : length (p .head) ≡ Codes.HEADER-LEN
+  pub fits : p .filled ≤ Codes.HEADER-LEN
+  pub free : drop (p .filled) (p .head) ≡ replicate (Codes.HEADER-LEN - p .filled) 0
+
+-- The pending list has its 32 places, and each behind those in use is blank.
+abbrev pub Clean : Pending → Type 0
+Clean l = Whole l × Sound l
+
+-- All that the view hides is as open has it: unused places are blank, and the phase is the one that the view has.
+pub record Tidy (s : Parts) : Type 0 where
+  pub list : Clean (s .pending)
+  pub head : Padded (s .link .progress)
+  pub phase : s .link .phase ≡ phaseOf (s .link) (s .pending .count)
+
+-- So that of tidy parts the view says all.
+abbrev pub OneStruct : Type 0
+OneStruct = (s t : Parts) → Tidy s → Tidy t → viewOf s ≡ viewOf t → s ≡ t

@@ -5,13 +5,14 @@ use Rattle.model.proofs.Cut.{consumes, cutting, cutting-answers, draining}
 use Rattle.model.proofs.Untouched.{untouched, work-free, keeps}
 use Rattle.exchanges.proofs.Known.{known}
 use Rattle.session.specs.Demands.{Demand1, Demand2, Demand3}
-use Rattle.session.proofs.Run.{code-run}
+use Rattle.session.proofs.Cuts.{code-cutting}
+use Rattle.session.proofs.Run.{code-run, same-struct, code-refuses}
 
 pub demand-1 : Demand1
-demand-1 = (open-iff, refused-iff, empty-piece, untouched, keeps)
+demand-1 = (open-iff, refused-iff, empty-piece, untouched, keeps, code-refuses)
 
 pub demand-2 : Demand2
-demand-2 = (accept-iff, attached-to, answered-stays, consumption, consumes, cutting, cutting-answers, draining, work-free, known)
+demand-2 = (accept-iff, attached-to, answered-stays, consumption, consumes, cutting, cutting-answers, draining, work-free, code-cutting, same-struct, known)
 
 pub demand-3 : Demand3
 demand-3 = (every-run, code-run, late-ticket, ended-ticket, cancelled-ticket)

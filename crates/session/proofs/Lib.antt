@@ -1,5 +1,7 @@
 -- Why the code is what the definitions say.
 pub mod Opening
 pub mod Writing
+pub mod Carrying
 pub mod Run
+pub mod Cuts
 pub mod Demands

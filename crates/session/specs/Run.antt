@@ -4,17 +4,19 @@ use mathlib.Core.Path.{_≡_}
 use mathlib.Core.Bool.{Bool, true, false}
 use mathlib.Core.List.{List, [], _∷_, map}
 use Rattle.exports.specs.declared.device.Table.{Table}
+use Rattle.pending.specs.Pending.{tickets}
+use Rattle.pending.specs.declared.list.Tickets.{Tickets}
 use Rattle.model.specs.Model
-use Rattle.model.specs.Model.{Buffers, openOf, completeOf, closeOf}
-use Rattle.model.specs.Book.{Call, feed, complete, close, Answer, Book, opened, keep}
+use Rattle.model.specs.Model.{Event, hungry, list, import, submit, answer, unlink, break, refusal, return, end, Buffers}
+use Rattle.model.specs.Book.{Call, feed, complete, close, Answer, Book, opened, keep, pendingOf}
 use Rattle.model.specs.Claims.{Holds}
 use Rattle.model.specs.Corollaries.{sessionFrom, bookFrom}
-use Rattle.events.specs.Answers.{openAnswer, eventOf, completionOf, closingOf}
-use Rattle.feeding.specs.Feeding.{fedOf}
-use Rattle.session.specs.Views.{viewOf, fedAs, completedAs, closedAs}
-use Rattle.session.specs.declared.state.Session.{Session}
+use Rattle.events.specs.Answers.{eventOf, completionOf, closingOf, ticketsOf}
 use Rattle.events.specs.declared.answer.Opening.{Opening}
 use Rattle.events.specs.declared.answer.Opening.the-variants.{Ready, Refused}
+use Rattle.session.specs.Views.{viewOf, Tidy}
+use Rattle.session.specs.Acts.{Opens, Feeds, Completes, Closes}
+use Rattle.session.specs.declared.state.Session.{Session}
 use Rattle.session.specs.declared.answer.Opened.{Opened}
 use Rattle.session.specs.declared.answer.Fed.{Fed}
 use Rattle.session.specs.declared.answer.Completed.{Completed}
@@ -41,11 +43,11 @@ nextOf (feeding piece entry exit r) = r .session
 nextOf (completing c header r) = r .session
 nextOf (closing r) = r .session
 
--- What the contract of the act says of it.
+-- It meets the contract of its act.
 abbrev pub Meets : Session → Act → Type 0
-Meets s (feeding piece entry exit r) = fedAs r (exit .work) (exit .reply) ≡ fedOf (viewOf s) entry piece
-Meets s (completing c header r) = completedAs r header ≡ completeOf (viewOf s) c
-Meets s (closing r) = closedAs r ≡ closeOf (viewOf s)
+Meets s (feeding piece entry exit r) = Feeds s piece entry exit r
+Meets s (completing c header r) = Completes s c header r
+Meets s (closing r) = Closes s r
 
 -- "Each call gets the session as the last one left it".
 abbrev pub Run : Session → List Act → Type 0
@@ -64,10 +66,54 @@ abbrev pub isReady : Opening → Bool
 isReady Ready = true
 isReady (Refused n) = false
 
--- Over every table, from what open hands back: the claim of demand 3 holds of the code's calls; the code's last session is that
--- of the definitions, and the book kept from the code's own answers is the book of the claim.
+-- The tickets that stand beside an answer, by the book before it: those of all that is pending beside a break and the end of a
+-- session, else none.
+abbrev pub listed : Book → Event → Tickets
+listed b (break n ts) = ticketsOf (tickets (pendingOf (b .items)))
+listed b (end ts) = ticketsOf (tickets (pendingOf (b .items)))
+listed b hungry = ticketsOf []
+listed b list = ticketsOf []
+listed b (import st) = ticketsOf []
+listed b (submit u) = ticketsOf []
+listed b (answer q st) = ticketsOf []
+listed b (unlink q st t) = ticketsOf []
+listed b (refusal n) = ticketsOf []
+listed b (return n) = ticketsOf []
+
+abbrev pub Beside : Book → Act → Type 0
+Beside b (feeding piece entry exit r) = r .answer .dropped ≡ listed b (answerOf (feeding piece entry exit r) .event)
+Beside b (completing c header r) = Unit {0}
+Beside b (closing r) = r .dropped ≡ listed b (answerOf (closing r) .event)
+
+abbrev pub Lists : Book → List Act → Type 0
+Lists b [] = Unit {0}
+Lists b (a ∷ more) = Beside b a × Lists (keep b (callOf a) (answerOf a)) more
+
+-- The claim of demand 3 holds of the code's calls; the code's last session is that of the definitions, and the book kept from the
+-- code's own answers is the book of the claim; the tickets beside each answer are that book's; what the view hides is blank.
+pub record Follows (t : Table) (o : Opened) (acts : List Act) : Type 0 where
+  pub holds : Holds (viewOf (o .session)) (opened (isReady (o .answer))) (map callOf acts)
+  pub last : viewOf (lastOf (o .session) acts) ≡ sessionFrom t (map callOf acts)
+  pub book : kept (opened (isReady (o .answer))) acts ≡ bookFrom t (map callOf acts)
+  pub lists : Lists (opened (isReady (o .answer))) acts
+  pub tidy : Tidy (lastOf (o .session) acts)
+
+-- Over every table, from what open hands back.
 abbrev pub CodeRun : Type 0
-CodeRun = (t : Table) (o : Opened) (acts : List Act) → o .answer ≡ openAnswer (openOf t .good) → viewOf (o .session) ≡ openOf t .next → Run (o .session) acts
-    → Holds (viewOf (o .session)) (opened (isReady (o .answer))) (map callOf acts)
-    × (viewOf (lastOf (o .session) acts) ≡ sessionFrom t (map callOf acts))
-    × (kept (opened (isReady (o .answer))) acts ≡ bookFrom t (map callOf acts))
+CodeRun = (t : Table) (o : Opened) (acts : List Act) → Opens t o → Run (o .session) acts → Follows t o acts
+
+-- Two runs of the code after which the definitions have the same session end with the same struct.
+abbrev pub SameStruct : Type 0
+SameStruct = (t u : Table) (o p : Opened) (acts others : List Act)
+    → Opens t o → Run (o .session) acts → Opens u p → Run (p .session) others
+    → sessionFrom t (map callOf acts) ≡ sessionFrom u (map callOf others) → lastOf (o .session) acts ≡ lastOf (p .session) others
+
+-- "nothing changes": the very session is handed back, the lent buffers are as they were, and nothing was consumed.
+abbrev pub Unchanged : Session → Act → Type 0
+Unchanged s (feeding piece entry exit r) = (r .session ≡ s) × (exit ≡ entry) × (r .answer .consumed ≡ 0)
+Unchanged s (completing c header r) = (r .session ≡ s) × (header ≡ c .header)
+Unchanged s (closing r) = r .session ≡ s
+
+-- Of any session, also one that no run leaves.
+abbrev pub CodeRefuses : Type 0
+CodeRefuses = (s : Session) (a : Act) (n : ℕ) → Meets s a → answerOf a .event ≡ refusal n → Unchanged s a

@@ -16,8 +16,15 @@ use Rattle.session.specs.declared.answer.Completed.{Completed}
 use Rattle.session.specs.declared.answer.Closed.{Closed}
 
 -- Its three parts, as `links` reads them: where they don't fit together, as no act leaves it, it is taken for closed.
+abbrev pub partsOf : Session → Links.Parts
+partsOf s = Links.whole (s .table) (s .link) (s .pending)
+
 abbrev pub viewOf : Session → Sess
-viewOf s = Links.viewOf (Links.whole (s .table) (s .link) (s .pending))
+viewOf s = Links.viewOf (partsOf s)
+
+-- What the view hides is as open has it.
+abbrev pub Tidy : Session → Type 0
+Tidy s = Links.Tidy (partsOf s)
 
 -- Nothing was said to it yet.
 abbrev pub fresh : Table → ℕ → Session

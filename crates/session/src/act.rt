@@ -27,12 +27,13 @@ use verdicts::limits::CLOSED;
 use verdicts::limits::WAITING;
 use wire::codes::SETUP_LEN;
 ghost use mathlib.Core.Path.{_≡_};
-ghost use Rattle.model.specs.Model.{numbersOf, openOf, completeOf, closeOf};
+ghost use Rattle.model.specs.Model.{numbersOf};
 ghost use Rattle.model.specs.Cut.{lent};
-ghost use Rattle.events.specs.Answers.{droppedBeside, openAnswer, numbersAs};
-ghost use Rattle.feeding.specs.Feeding.{Plans, fedOf};
+ghost use Rattle.events.specs.Answers.{numbersAs};
+ghost use Rattle.feeding.specs.Feeding.{Plans};
 ghost use Rattle.settling.specs.Completing.{handed};
-ghost use Rattle.session.specs.Views.{viewOf, fresh, fedAs, completedAs, closedAs};
+ghost use Rattle.session.specs.Views.{viewOf, fresh};
+ghost use Rattle.session.specs.Acts.{Opens, Feeds, Completes, Closes};
 
 // A session that nothing was said to yet.
 fn fresh_session(table: Table, phase: u8) -> Session
@@ -63,7 +64,7 @@ fn plan_feed(s: Session, piece: &[u8], work: usize, reply: usize) -> Plan
 impl Session {
     // A session over a table: waiting, or closed over no devices if the table breaks a rule.
     pub fn open(table: Table) -> Opened
-        ensures { λ r. ⌜ (r .answer ≡ openAnswer (openOf table .good)) × (viewOf (r .session) ≡ openOf table .next) ⌝ }
+        ensures { λ r. ⌜ Opens table r ⌝ }
     {
         if is_good(table) {
             return Opened {
@@ -81,7 +82,7 @@ impl Session {
     // A piece of the stream, up to the end of the first whole message or all of it. A submit's data goes to the work buffer,
     // a reply to the front of the reply buffer.
     pub fn feed(self, piece: &[u8], work: &mut [u8], reply: &mut [u8]) -> Fed
-        ensures { λ r. ⌜ fedAs r (now (work .exit)) (now (reply .exit)) ≡ fedOf (viewOf self) (lent (now (work .entry)) (now (reply .entry))) (now (piece .entry)) ⌝ }
+        ensures { λ r. ⌜ Feeds self (now (piece .entry)) (lent (now (work .entry)) (now (reply .entry))) (lent (now (work .exit)) (now (reply .exit))) r ⌝ }
     {
         let list = self.pending;
         let plan = plan_feed(self, piece, work.len(), reply.len());
@@ -121,7 +122,7 @@ impl Session {
         frame: &[u8],
         header: &mut [u8],
     ) -> Completed
-        ensures { λ r. ⌜ completedAs r (now (header .exit)) ≡ completeOf (viewOf self) (handed ticket status actual (now (frame .entry)) (now (header .entry))) ⌝ }
+        ensures { λ r. ⌜ Completes self (handed ticket status actual (now (frame .entry)) (now (header .entry))) (now (header .exit)) r ⌝ }
     {
         let list = self.pending;
         let link = self.link;
@@ -152,7 +153,7 @@ impl Session {
 
     // The end: what is pending is dropped.
     pub fn close(self) -> Closed
-        ensures { λ r. ⌜ (closedAs r ≡ closeOf (viewOf self)) × (r .dropped ≡ droppedBeside (closeOf (viewOf self) .event)) ⌝ }
+        ensures { λ r. ⌜ Closes self r ⌝ }
     {
         let link = self.link;
         let list = self.pending;

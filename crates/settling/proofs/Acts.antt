@@ -2,34 +2,44 @@
 use Prim.Native.Nat.{ℕ, _+_, _≤_}
 use native.Mathlib.Omega.{arith}
 use native.Mathlib.Nat.{add-zero}
-use mathlib.Core.Path.{_≡_, sym, ap, _∙_}
+use mathlib.Core.Path.{_≡_, sym, ap, subst, _∙_}
 use mathlib.Core.Bool.{Bool, true, false, true≢false}
-use mathlib.Core.List.{List}
+use mathlib.Core.List.{List, []}
 use mathlib.Core.Option.{none, some}
 use lib.Dec.{eqb}
-use lib.ListN.{length, List·getD-eq-default}
+use lib.ListN.{length, replicate, List·getD-eq-default}
+use Rattle.wire.specs.Codes
 use Rattle.wire.specs.Writing.{over}
 use Rattle.messages.specs.Messages.{retSubmit}
 use Rattle.transmit.specs.Part.{wireLength}
-use Rattle.pending.specs.Pending.{MAX-PENDING, blank, ticketOf, tickets, findBy, found, listOf, placeBy, urbAt, removed}
+use Rattle.pending.specs.Pending.{MAX-PENDING, blank, ticketOf, tickets, findBy, found, listOf, placeBy, urbAt, emptyPending, removed}
 use Rattle.pending.specs.declared.list.Pending.{Pending}
 use Rattle.pending.specs.declared.list.Place.the-variants.{At, Nothing}
 use Rattle.pending.specs.declared.urb.Urb.{Urb}
 use Rattle.pending.specs.declared.urb.Transfer.{Transfer}
 use Rattle.pending.proofs.Finding.{place-at, place-find, place-none}
-use Rattle.pending.proofs.Laws.{view-length, remove-view, remove-count}
+use Rattle.pending.proofs.Laws.{view-length, remove-view, remove-count, empty-whole, empty-sound}
 use Rattle.pending.proofs.Without.{remove-first}
 use Rattle.verdicts.specs.Limits
 use Rattle.verdicts.specs.Tests.{first, decide, pick}
 use Rattle.verdicts.specs.Verdicts
 use Rattle.model.specs.Model
 use Rattle.model.specs.Model.{Sess, Event, completeTests, theUrb, completeOf, closeOf}
-use Rattle.links.specs.Links.{Parts, phaseOf, bareOf, viewOf, whole, Live}
+use Rattle.exports.specs.declared.device.Table.{Table}
+use Rattle.links.specs.Links.{Parts, phaseOf, bareOf, viewOf, whole, resting, Live, Padded, Tidy}
+use Rattle.events.specs.Answers.{closingOf, droppedBeside}
+use Rattle.events.specs.Plans.{changed, droppedBy}
+use Rattle.events.specs.declared.answer.Closing.the-variants.{Refused}
+use Rattle.events.specs.declared.plan.Change.the-variants.{Keep, Remove}
+use Rattle.events.proofs.Saying.{changed-clean}
 use Rattle.settling.specs.Completing.{asked, handed}
+use Rattle.settling.specs.Ends.{Ends}
+use Rattle.settling.specs.declared.ends.Ending.{Ending}
 use Rattle.links.specs.declared.Counts.{Counts}
 use Rattle.links.specs.declared.Link.{Link}
 use Rattle.links.proofs.Fits.{counts-known, even-counts}
-use Rattle.links.proofs.Views.{view-fit, live}
+use Rattle.links.proofs.Views.{view-fit, view-shut, live}
+use Rattle.links.proofs.Tidy.{none-padded}
 
 -- ## Completing
 
@@ -62,6 +72,18 @@ returns-one s i t k l w e q =
     ap (λ (z : Link). viewOf (whole (s .table) z list)) q
     ∙ view-fit (whole (s .table) next list) (even-counts d (list .count) (omega (arith, f .0)) (omega (arith, f .1))) (l .1)
     ∙ rw (remove-view (s .pending) i ∙ remove-first t (listOf (s .pending)) i e, add-zero (c .unlinked), add-zero (c .dropped))
+
+-- and what is left is tidy
+pub returns-tidy : (s : Parts) (i t : ℕ) (k : Link) → Live s → length (s .pending .urbs) ≡ MAX-PENDING → placeBy ticketOf t (listOf (s .pending)) ≡ At i
+    → let c = s .link .counts in
+    k ≡ record { phase = s .link .phase; devid = s .link .devid; progress = s .link .progress; counts = record { accepted = c .accepted; returned = c .returned + 1; unlinked = c .unlinked; dropped = c .dropped } }
+    → Tidy s → Tidy (whole (s .table) k (removed (s .pending) i))
+returns-tidy s i t k l w e q h =
+    record {
+      list = changed-clean (s .pending) (Remove i) [] (h .list);
+      head = subst Padded (ap (λ (z : Link). z .progress) (sym q)) (h .head);
+      phase = ap (λ (z : Link). z .phase) q ∙ sym (ap (λ (x : Sess). x .phase) (returns-one s i t k l w e q));
+    }
 
 module _ (s : Sess) (ticket status actual : ℕ) (frame header : List ℕ) where
   abbrev given : Model.Completion
@@ -100,3 +122,20 @@ module _ (s : Sess) where
   pub close-ends : Model.closed s ≡ false → closeOf s ≡ record { event = Event.end (tickets (s .pend)); next = Model.between (Model.act s (Model.drop-all (tickets (s .pend)))) }
   unfolding closeOf pick
   close-ends h = rw h
+
+-- a link that is closed, and no list
+pub shut-tidy : (t : Table) (k : Link) (devid : ℕ) (c : Counts) → k ≡ resting Limits.CLOSED devid c → Tidy (whole t k emptyPending)
+shut-tidy t k devid c e =
+    subst (λ (z : Link). Tidy (whole t z emptyPending)) (sym e)
+    (record { list = (empty-whole, empty-sound); head = none-padded; phase = sym (ap (λ (x : Sess). x .phase) (view-shut t devid c emptyPending)) })
+
+-- a refusal of what is left as it was
+pub close-keeps : (r : Ending) (t : Table) (k : Link) (l : Pending) → Model.closed (viewOf (whole t k l)) ≡ true → r .link ≡ k → r .change ≡ Keep → r .answer ≡ Refused Limits.SESSION-CLOSED → Ends r t k l
+close-keeps r t k l h p c a =
+    let e = close-refused (viewOf (whole t k l)) h in
+    record {
+      ended = (λ i. record { event = closingOf (a i) (droppedBy l (c i)); next = viewOf (whole t (p i) (changed l (c i) (replicate Codes.SETUP-LEN 0))) }) ∙ sym e;
+      dropped = ap (droppedBy l) c ∙ ap (λ (x : Model.Close). droppedBeside (x .event)) (sym e);
+      same = λ _ _. (p, c);
+      tidy = subst Tidy (λ i. whole t (sym p i) (changed l (sym c i) (replicate Codes.SETUP-LEN 0)));
+    }

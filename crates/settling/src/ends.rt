@@ -9,6 +9,9 @@ use links::phase_of;
 use verdicts::limits::CLOSED;
 use verdicts::limits::SESSION_CLOSED;
 ghost use mathlib.Core.Path.{_≡_};
+ghost use Rattle.exports.specs.declared.device.Table.{Table};
+ghost use Rattle.pending.specs.Pending.{Whole};
+ghost use Rattle.pending.specs.declared.list.Pending.{Pending};
 ghost use Rattle.settling.specs.Ends.{freshLink, Ends};
 
 // The link of a session that nothing was said to yet.
@@ -33,7 +36,7 @@ pub struct Ending {
 
 // A close, with so many URBs pending: all of them are dropped.
 pub fn plan_close(link: Link, pending: usize) -> Ending
-    ensures { λ r. ⌜ Ends r link pending ⌝ }
+    ensures { λ r. ⌜ ((t : Table) (l : Pending) → Whole l → l .count ≡ pending → Ends r t link l) ⌝ }
 {
     if phase_of(link, pending) == CLOSED {
         return Ending {

@@ -1,4 +1,7 @@
 use borrow.Author.Needs.{needs}
+use native.Mathlib.Omega.{arith}
+use mir.Syntax.{w64}
+use mir.Val.{Fits}
 use Prim.Native.Nat.{_≤_, _-_}
 use mathlib.Core.Path.{_≡_}
 use lib.ListN.{length}
@@ -32,8 +35,14 @@ sub-step c = search needs
 step-requires : tie.Need-step-requires Inv-loop μ-loop
 step-requires c κs = search needs
 
+-- a slice is shorter than the address space
+long : (c : tie.After-shared-slice-known Inv-loop μ-loop) → Fits w64 (length (c .before .args .stream .now))
+long c = search needs
+
 add-at : tie.Need-add-at Inv-loop μ-loop
-add-at c = search needs
+add-at c =
+    let i = c .before .before .before .before .before .before .before .before .before .before in
+    record { fits = omega (arith, c .step .ensures, i .loop-test, long (i .before .before .before .before)) }
 
 loop-less : tie.Need-loop-less Inv-loop μ-loop
 loop-less c = search needs

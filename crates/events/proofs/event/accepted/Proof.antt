@@ -10,6 +10,7 @@ use Prim.Native.Nat.{ℕ, suc}
 use mathlib.Core.Path.{subst}
 use Rattle.links.specs.declared.Link.{Link}
 use Rattle.links.specs.Links.{during, viewOf, whole}
+use Rattle.links.proofs.Tidy.{rest-padded}
 use Rattle.events.specs.Plans.{changed}
 use Rattle.model.specs.Model
 use mathlib.Core.Path.{_≡_, refl, ap, sym, _∙_}
@@ -40,7 +41,7 @@ returns c =
     let s = whole t (a .old) l in
     let u : Urb = record { transfer = v .transfer-of .result; setup = a .u .setup } in
     let e : u ≡ urbFrom (suc (a .old .counts .accepted)) (a .u) = λ i. record { transfer = (v .transfer-of .ensures ∙ ap (λ (x : ℕ). urbFrom x (a .u) .transfer) (add-one (a .old .counts .accepted))) i; setup = a .u .setup } in
-    says _ t l (during s p) (a .used) (Model.submit (urbFrom (suc (a .old .counts .accepted)) (a .u)))
+    says _ t (a .old) l p (a .used) (Model.submit (urbFrom (suc (a .old .counts .accepted)) (a .u)))
     (ap (λ (x : Plan). eventOf (x .event) (a .u .setup) (droppedBy l (x .change))) (q .plain-plan .ensures) ∙ ap Model.submit e)
     refl
     (ap (λ (x : Plan). droppedBy l (x .change)) (q .plain-plan .ensures))
@@ -52,6 +53,8 @@ returns c =
     ∙ ap (λ (z : Link). viewOf (whole t z (appended l u))) (k .resting-link .ensures)
     ∙ accepts s p h u (appended l u) w n refl
     ∙ ap (λ (x : Urb). Model.after (during s p) (Model.submit x)) e)
+    (λ _. rest-padded (q .plain-plan .result .link) _ _ _ (ap (λ (x : Plan). x .link) (q .plain-plan .ensures) ∙ k .resting-link .ensures))
+    (ap (λ (x : Plan). x .link .phase) (q .plain-plan .ensures) ∙ ap (λ (x : Link). x .phase) (k .resting-link .ensures) ∙ sym (h .1))
 
 pub accepted-spec : {M : Type 1} → statement M
 accepted-spec =

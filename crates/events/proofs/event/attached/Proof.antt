@@ -1,11 +1,11 @@
-use Rattle.events.proofs.Saying.{plainly, attaches}
+use Rattle.events.proofs.Saying.{plainly-rests, attaches}
 use Rattle.events.specs.declared.plan.Reply.the-variants.{Device}
 use Rattle.events.specs.declared.plan.Change.the-variants.{Keep}
 use Rattle.events.specs.declared.answer.Event.the-variants.{Import}
-use Rattle.links.specs.declared.Link.{Link}
-use Rattle.links.specs.Links.{during, viewOf, whole}
+use Rattle.links.specs.Links.{whole}
+use Rattle.verdicts.specs.Limits.{ATTACHED}
 use Rattle.model.specs.Model
-use mathlib.Core.Path.{refl, ap, _∙_}
+use mathlib.Core.Path.{refl}
 use borrow.Author.Needs.{needs}
 use Rattle.events.proofs.event.attached.Statement.{statement}
 use Rattle.events.proofs.event.attached.Tie as tie
@@ -29,15 +29,15 @@ plain-plan-requires : tie.Need-plain-plan-requires
 plain-plan-requires c κs = search needs
 
 returns : tie.Need-returns
-unfolding Model.replyTo
+unfolding Model.replyTo Rattle.verdicts.specs.Tests.pick
 returns c =
     λ t l p h f i g.
     let k = c .before in
     let s = k .before .before .before .before in
     let a = s .args in
     let w = whole t (a .old) l in
-    plainly _ t l (during w p) (a .used) (Model.import 0) (k .resting-link .result) Keep (Import 0) (Device (a .at)) (c .plain-plan .ensures) refl refl refl (rw f) i
-    (ap (λ (z : Link). viewOf (whole t z l)) (k .resting-link .ensures) ∙ attaches w p (a .at) (a .d) f g h)
+    plainly-rests _ t (a .old) l p (a .used) (Model.import 0) (k .resting-link .result) Keep (Import 0) (Device (a .at)) ATTACHED _ (a .old .counts) (c .plain-plan .ensures) (k .resting-link .ensures) refl refl refl refl (rw f) i
+    (attaches w p (a .at) (a .d) f g h)
 
 pub attached-spec : {M : Type 1} → statement M
 attached-spec =

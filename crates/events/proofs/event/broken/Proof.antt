@@ -1,4 +1,4 @@
-use Rattle.events.proofs.Saying.{plainly, drops-all, listed-tickets}
+use Rattle.events.proofs.Saying.{plainly-rests, drops-all, listed-tickets}
 use Rattle.links.proofs.Fits.{counts-known}
 use Rattle.links.specs.Links.{resting}
 use Rattle.pending.proofs.Laws.{tickets-view}
@@ -32,8 +32,9 @@ returns c =
     let d = during (whole t (a .old) l) p in
     let m = counts-known (a .old .counts) (a .pending) h in
     let e = listed-tickets (listOf l) in
-    plainly _ t l d (a .used) (Model.breaks d (a .number)) (k .ended .result) Clear (Break (a .number)) Silent (c .plain-plan .ensures) (ap (Model.break (a .number)) (tickets-view (listOf l))) refl e refl tt
-    (drops-all (whole t (a .old) l) p (k .ended .result) w (omega (arith, n, m .0)) (k .ended .ensures h ∙ ap (λ (x : ℕ). resting CLOSED (a .old .devid) (record { accepted = a .old .counts .accepted; returned = a .old .counts .returned; unlinked = a .old .counts .unlinked; dropped = a .old .counts .dropped + x })) (sym n)))
+    let g = k .ended .ensures h ∙ ap (λ (x : ℕ). resting CLOSED (a .old .devid) (record { accepted = a .old .counts .accepted; returned = a .old .counts .returned; unlinked = a .old .counts .unlinked; dropped = a .old .counts .dropped + x })) (sym n) in
+    plainly-rests _ t (a .old) l p (a .used) (Model.breaks d (a .number)) (k .ended .result) Clear (Break (a .number)) Silent CLOSED (a .old .devid) _ (c .plain-plan .ensures) g refl (ap (Model.break (a .number)) (tickets-view (listOf l))) refl e refl tt
+    (drops-all (whole t (a .old) l) p _ w (omega (arith, n, m .0)) refl)
 
 pub broken-spec : {M : Type 1} → statement M
 broken-spec = tie.close (tie.spec ended-requires plain-plan-requires returns)

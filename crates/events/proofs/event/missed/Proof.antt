@@ -1,13 +1,13 @@
-use Rattle.events.proofs.Saying.{plainly, rests}
+use Rattle.events.proofs.Saying.{plainly-rests, rests}
 use Rattle.events.specs.declared.answer.Removed.the-variants.{Nothing}
 use mathlib.Core.Option.{none}
 use Rattle.events.specs.declared.plan.Reply.the-variants.{Cancelled}
 use Rattle.events.specs.declared.plan.Change.the-variants.{Keep}
 use Rattle.events.specs.declared.answer.Event.the-variants.{Unlink}
-use Rattle.links.specs.declared.Link.{Link}
-use Rattle.links.specs.Links.{during, viewOf, whole}
+use Rattle.links.specs.Links.{whole}
+use Rattle.verdicts.specs.Limits.{ATTACHED}
 use Rattle.model.specs.Model
-use mathlib.Core.Path.{refl, ap, _∙_}
+use mathlib.Core.Path.{refl, sym}
 use borrow.Author.Needs.{needs}
 use Rattle.events.proofs.event.missed.Statement.{statement}
 use Rattle.events.proofs.event.missed.Tie as tie
@@ -25,8 +25,8 @@ returns c =
     let k = c .before in
     let a = k .before .before .args in
     let w = whole t (a .old) l in
-    plainly _ t l (during w p) (a .used) (Model.unlink (a .seqnum) 0 none) (k .resting-link .result) Keep (Unlink (a .seqnum) 0 Nothing) (Cancelled (record { seqnum = a .seqnum; status = 0 })) (c .plain-plan .ensures) refl refl refl refl tt
-    (ap (λ (z : Link). viewOf (whole t z l)) (k .resting-link .ensures) ∙ rests w p h)
+    plainly-rests _ t (a .old) l p (a .used) (Model.unlink (a .seqnum) 0 none) (k .resting-link .result) Keep (Unlink (a .seqnum) 0 Nothing) (Cancelled (record { seqnum = a .seqnum; status = 0 })) ATTACHED (a .old .devid) (a .old .counts) (c .plain-plan .ensures) (k .resting-link .ensures) (sym (h .1)) refl refl refl refl tt
+    (rests w p h)
 
 pub missed-spec : {M : Type 1} → statement M
 missed-spec = tie.close (tie.spec resting-link-requires plain-plan-requires returns)

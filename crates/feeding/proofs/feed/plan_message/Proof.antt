@@ -41,7 +41,7 @@ returns c =
     let a = q .before .before .args in
     let f = bad-first _ (v .feed-verdict .result) (g .0 .0) (v .feed-verdict .ensures) (g .1) in
     let e = closed-away (a .link) (a .list .count) (q .phase-of .result) (q .phase-of .ensures) h in
-    plans-refusal _ t (a .link) (a .list) (a .piece .now) (not (eqb (q .phase-of .result) ATTACHED)) (a .work) (a .reply) e (g .0 .0) f (c .refused .ensures t (a .list))
+    plans-refusal t (a .link) (a .list) (a .piece .now) (not (eqb (q .phase-of .result) ATTACHED)) (a .work) (a .reply) e _ (g .0 .0) f (c .refused .ensures)
 
 returns-2 : tie.Need-returns-2
 returns-2 c =
@@ -52,7 +52,7 @@ returns-2 c =
     let f = good-first _ (v .feed-verdict .result) (v .feed-verdict .ensures) (c .before .enum-told .given .1) in
     let k = in-phase (a .link) (a .list .count) (q .phase-of .result) (q .phase-of .ensures) ATTACHED refl (feed-clear (not (eqb (q .phase-of .result) ATTACHED)) (a .work) (a .reply) f .0) in
     let e = closed-away (a .link) (a .list .count) (q .phase-of .result) (q .phase-of .ensures) h in
-    plans-feed _ t (a .link) (a .list) (a .piece .now) (not (eqb (q .phase-of .result) ATTACHED)) (a .work) (a .reply) e f (k .0, k .1) (c .plan-attached .ensures t)
+    plans-feed t (a .link) (a .list) (a .piece .now) (not (eqb (q .phase-of .result) ATTACHED)) (a .work) (a .reply) e f _ (k .0, k .1) (c .plan-attached .ensures t)
 
 pub plan-message-spec : {M : Type 1} → statement M
 plan-message-spec =

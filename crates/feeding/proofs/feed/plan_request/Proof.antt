@@ -43,7 +43,7 @@ returns c =
     let a = q .before .before .args in
     let f = bad-first _ (v .feed-verdict .result) (g .0 .0) (v .feed-verdict .ensures) (g .1) in
     let e = closed-waits (a .link) (a .pending) (q .phase-of .result) (q .phase-of .ensures) h ∙ ap (λ (m : ℕ). eqb (phaseOf (a .link) m) CLOSED) (sym n) in
-    plans-refusal _ (a .table) (a .link) l (a .piece .now) (not (eqb (q .phase-of .result) WAITING)) (a .work) (a .reply) e (g .0 .0) f (c .refused .ensures (a .table) l)
+    plans-refusal (a .table) (a .link) l (a .piece .now) (not (eqb (q .phase-of .result) WAITING)) (a .work) (a .reply) e _ (g .0 .0) f (c .refused .ensures)
 
 returns-2 : tie.Need-returns-2
 returns-2 c =
@@ -54,7 +54,7 @@ returns-2 c =
     let f = good-first _ (v .feed-verdict .result) (v .feed-verdict .ensures) (c .before .enum-told .given .1) in
     let k = in-phase (a .link) (a .pending) (q .phase-of .result) (q .phase-of .ensures) WAITING refl (feed-clear (not (eqb (q .phase-of .result) WAITING)) (a .work) (a .reply) f .0) in
     let e = closed-waits (a .link) (a .pending) (q .phase-of .result) (q .phase-of .ensures) h ∙ ap (λ (m : ℕ). eqb (phaseOf (a .link) m) CLOSED) (sym n) in
-    plans-feed _ (a .table) (a .link) l (a .piece .now) (not (eqb (q .phase-of .result) WAITING)) (a .work) (a .reply) e f (ap (countsFit (a .link .counts)) n ∙ k .0, k .1) (c .plan-waiting .ensures l w n)
+    plans-feed (a .table) (a .link) l (a .piece .now) (not (eqb (q .phase-of .result) WAITING)) (a .work) (a .reply) e f _ (ap (countsFit (a .link .counts)) n ∙ k .0, k .1) (c .plan-waiting .ensures l w n)
 
 pub plan-request-spec : {M : Type 1} → statement M
 plan-request-spec =

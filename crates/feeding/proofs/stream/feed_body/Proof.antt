@@ -2,6 +2,7 @@ use Rattle.feeding.proofs.Pieces.{feeds-data, fits-body, body-waits, bo
 use Rattle.links.specs.declared.Progress.{Progress}
 use Rattle.events.specs.Plans.{told}
 use Rattle.links.specs.Links.{headed}
+use Rattle.links.proofs.Tidy.{full-padded}
 use Rattle.model.specs.Cut.{lent}
 use Rattle.model.specs.Model.{hungry, bodyOf, submitted}
 use Rattle.wire.specs.Codes.{HEADER-LEN}
@@ -12,7 +13,7 @@ use Rattle.links.specs.Links.{during, whole}
 use Rattle.records.proofs.Records.{unmapped}
 use lib.Seq.{take-all}
 use lib.ListN.{length, drop, length-drop}
-use mathlib.Core.Path.{_≡_, sym, ap, _∙_}
+use mathlib.Core.Path.{_≡_, refl, sym, ap, _∙_}
 use native.Mathlib.Omega.{arith}
 use Prim.Native.Nat.{_+_, _-_, _≤_}
 use borrow.Author.Needs.{needs}
@@ -53,7 +54,7 @@ returns c =
     let e = take-all (n - a .at) (drop (a .at) (a .piece .now)) (rw length-drop (omega arith)) in
     let q : Progress = record { head = a .p .head; filled = a .p .filled; body = a .p .body + (n - a .at) } in
     let f = fits-body (a .link .phase) q (s .pre .0) (s .pre .1 .0) (s .pre .1 .2) (omega (arith, b .body-len .ensures, t .if1 .taken, s .pre .1 .1)) in
-    feeds-data (k .hungry .result) t′ l (a .at) (during w (a .p)) (during w q) (a .piece .now) n (a .p .body) n hungry (k .hungry .ensures t′ l (h .0) f) (omega arith) (omega (arith, b .body-len .ensures, t .if1 .taken, s .pre .1 .1, s .pre .1 .2))
+    feeds-data (k .hungry .result) t′ (a .link) l (a .at) (a .p) q (a .piece .now) n (a .p .body) n hungry (k .hungry .ensures t′ l (h .0) f) (λ _. full-padded q (full s) (s .pre .1 .0)) (omega arith) (omega (arith, b .body-len .ensures, t .if1 .taken, s .pre .1 .1, s .pre .1 .2))
     (λ b′. body-waits w (a .p) (a .piece .now) (a .at) (b′ .work) (b′ .reply) (full s) (s .pre .0) (s .pre .1 .0) (s .pre .2) (omega (arith, b .body-len .ensures, t .if1 .taken)) ∙ ap (λ (xs : List ℕ). told (during w q) (lent (sets (b′ .work) (a .p .body) xs) (b′ .reply)) n hungry) (sym e))
 
 add-end : tie.Need-add-end
@@ -73,8 +74,9 @@ returns-2 c =
     let w = whole t′ (a .link) l in
     let end = a .at + (b .body-len .result - a .p .body) in
     let m : end ≤ length (a .piece .now) = omega (arith, t .if1 .left, s .pre .2) in
-    let d = during w (headed (a .p .head) (bodyOf (a .p .head))) in
-    feeds-data (k .submitted .result) t′ l (a .at) (during w (a .p)) d (a .piece .now) end (a .p .body) end (submitted d) (k .submitted .ensures t′ l (bodyOf (a .p .head)) h y z) m (omega (arith, b .body-len .ensures, s .pre .1 .1, s .pre .1 .2))
+    let q = headed (a .p .head) (bodyOf (a .p .head)) in
+    let d = during w q in
+    feeds-data (k .submitted .result) t′ (a .link) l (a .at) (a .p) q (a .piece .now) end (a .p .body) end (submitted d) (k .submitted .ensures t′ l (bodyOf (a .p .head)) h y z) (λ _. full-padded q (full s) refl) m (omega (arith, b .body-len .ensures, s .pre .1 .1, s .pre .1 .2))
     (λ b′. body-ends w (a .p) (a .piece .now) (a .at) (b′ .work) (b′ .reply) (full s) (s .pre .0) (s .pre .1 .0) end m (s .pre .1 .1) (ap (λ (x : ℕ). a .at + (x - a .p .body)) (b .body-len .ensures)))
 
 pub feed-body-spec : {M : Type 1} → statement M

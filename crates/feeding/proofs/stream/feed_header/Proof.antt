@@ -1,6 +1,7 @@
 use Rattle.feeding.proofs.Pieces.{feeds, feeds-on, fits-header, part-waits, filled-to, header-unlinks, header-submits, header-breaks, header-goes-on-to, body-starts, some-body, short-body}
 use Rattle.feeding.proofs.Moments.{calm-48}
 use Rattle.links.specs.Links.{headed}
+use Rattle.links.proofs.Tidy.{full-padded}
 use Rattle.model.specs.Model.{hungry, breaks, submitted}
 use Rattle.pending.specs.Pending.{MAX-PENDING, listOf}
 use Rattle.wire.specs.Codes.{HEADER-LEN}
@@ -55,7 +56,7 @@ returns c =
     let n = came s in
     let m : length (take (length (s .args .piece .now)) (drop 0 (s .args .piece .now))) ≡ length (s .args .piece .now) = length-take-le _ _ (omega arith) in
     let f = fits-header (s .args .link .phase) (g .grown .result) (s .pre .1) (rw (g .grown .ensures .1) (omega (arith, m, t .if1 .taken))) (g .grown .ensures .2 ∙ s .pre .2) in
-    feeds _ t′ (a .list) 0 (during w p) (during w (g .grown .result)) (a .piece .now) (length (a .piece .now)) hungry (c .hungry .ensures t′ (a .list) (s .pre .0) f)
+    feeds _ t′ (a .link) (a .list) 0 p (g .grown .result) (a .piece .now) (length (a .piece .now)) hungry (c .hungry .ensures t′ (a .list) (s .pre .0) f) (g .grown .ensures .4)
     (λ b. part-waits w p (g .grown .result) (a .piece .now) 0 (length (a .piece .now)) b (omega arith) (omega arith) (g .grown .ensures) (rw n (omega (arith, t .if1 .taken)))
     (HEADER-LEN - length (take (p .filled) (p .head))) refl (calm-48 (during w p) (λ k. omega (arith, k, s .pre .1))) (rw n (omega (arith, t .if1 .taken))))
 
@@ -105,7 +106,7 @@ returns-2 c =
     let m : end ≤ length (a .piece .now) = t .if1 .left in
     let w = whole t′ (a .link) (a .list) in
     let o = good-first _ (v .header-verdict .result) (v .header-verdict .ensures) (r .before .enum-told .given .1) in
-    feeds _ t′ (a .list) 0 (during w p) (during w q) (a .piece .now) end _ (c .unlinked .ensures t′ q (s .pre .0, s .pre .1))
+    feeds _ t′ (a .link) (a .list) 0 p q (a .piece .now) end _ (c .unlinked .ensures t′ q (s .pre .0, s .pre .1)) (g .grown2 .ensures .4)
     (λ b. header-unlinks w p q (a .piece .now) 0 end b (full s) (g .grown2 .ensures .3) m (g .grown2 .ensures) (s .pre .1) (s .pre .2) (s .pre .3) (omega arith) o (λ e. k .if2 .taken (r .read-command .ensures ∙ e)))
 
 body-len-requires : tie.Need-body-len-requires
@@ -131,7 +132,7 @@ returns-3 c =
     let m : end ≤ length (a .piece .now) = t .if1 .left in
     let w = whole t′ (a .link) (a .list) in
     let o = good-first _ (v .header-verdict .result) (v .header-verdict .ensures) (r .before .enum-told .given .1) in
-    feeds _ t′ (a .list) 0 (during w p) (during w (headed (q .head) 0)) (a .piece .now) end (submitted (during w (headed (q .head) 0))) (c .submitted .ensures t′ (a .list) 0 (s .pre .0, s .pre .1) (whole-list s) refl)
+    feeds _ t′ (a .link) (a .list) 0 p (headed (q .head) 0) (a .piece .now) end (submitted (during w (headed (q .head) 0))) (c .submitted .ensures t′ (a .list) 0 (s .pre .0, s .pre .1) (whole-list s) refl) (λ _. full-padded (headed (q .head) 0) (g .grown2 .ensures .3) refl)
     (λ b. header-submits w p q (a .piece .now) 0 end b (full s) (g .grown2 .ensures .3) m (g .grown2 .ensures) (s .pre .1) (s .pre .2) (s .pre .3) (omega arith) o (sym (r .read-command .ensures) ∙ n .before .if2 .left) (sym (n .body-len .ensures) ∙ k .if3 .taken))
 
 feed-body-requires : tie.Need-feed-body-requires
@@ -167,7 +168,7 @@ returns-4 c =
     let w = whole t′ (a .link) (a .list) in
     let x = k .verdict .given .0 .0 in
     let o = bad-first _ (v .header-verdict .result) x (v .header-verdict .ensures) (k .verdict .given .1) in
-    feeds _ t′ (a .list) 0 (during w p) (during w q) (a .piece .now) end (breaks (during w q) x) (c .broken .ensures t′ (a .list) q (s .pre .0) (whole-list s) refl)
+    feeds _ t′ (a .link) (a .list) 0 p q (a .piece .now) end (breaks (during w q) x) (c .broken .ensures t′ (a .list) q (s .pre .0) (whole-list s) refl) (g .grown2 .ensures .4)
     (λ b. header-breaks w p q (a .piece .now) 0 end b (full s) (g .grown2 .ensures .3) m (g .grown2 .ensures) (s .pre .1) (s .pre .2) (s .pre .3) (omega arith) x o)
 
 returns-5 : tie.Need-returns-5
@@ -187,7 +188,7 @@ returns-5 c =
     let m : end ≤ length (a .piece .now) = t .if1 .left in
     let w = whole t′ (a .link) (a .list) in
     let o = good-first _ (v .header-verdict .result) (v .header-verdict .ensures) (r .before .enum-told .given .1) in
-    feeds-on _ t′ (a .list) end (during w q) 0 (during w p) (a .piece .now) (c .feed-body .ensures t′ (a .list) (s .pre .0, s .pre .1) (whole-list s) refl)
+    feeds-on _ t′ (a .link) (a .list) end q 0 p (a .piece .now) (c .feed-body .ensures t′ (a .list) (s .pre .0, s .pre .1) (whole-list s) refl) (g .grown2 .ensures .4)
     (λ b. header-goes-on-to w p q (a .piece .now) 0 end b (full s) (g .grown2 .ensures .3) m (g .grown2 .ensures) (s .pre .1) (s .pre .2) (s .pre .3) (omega arith) o (sym (r .read-command .ensures) ∙ n .before .if2 .left) (some-body (q .head) (λ e. k .if3 .left (n .body-len .ensures ∙ e))))
 
 pub feed-header-spec : {M : Type 1} → statement M

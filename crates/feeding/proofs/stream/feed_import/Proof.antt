@@ -56,7 +56,7 @@ returns c =
     let w = whole (a .table) (a .link) l in
     let n = came s in
     let f = fits-waiting (s .args .link .phase) (g .grown .result) (s .pre .0) (rw (g .grown .ensures .1, part-is s) (omega (arith, t .if1 .taken))) (g .grown .ensures .2 ∙ s .pre .1) in
-    feeds _ (a .table) l (a .at) (during w (a .p)) (during w (g .grown .result)) (a .piece .now) (length (a .piece .now)) hungry (c .hungry .ensures (a .table) l h f)
+    feeds _ (a .table) (a .link) l (a .at) (a .p) (g .grown .result) (a .piece .now) (length (a .piece .now)) hungry (c .hungry .ensures (a .table) l h f) (g .grown .ensures .4)
     (λ b. part-waits w (a .p) (g .grown .result) (a .piece .now) (a .at) (length (a .piece .now)) b (s .pre .4) (omega arith) (g .grown .ensures) (rw n (omega (arith, t .if1 .taken)))
     (OP-LEN + BUSID-LEN - length (take (a .p .filled) (a .p .head))) refl (calm-40 (during w (a .p)) (s .pre .0) (rw n (s .pre .2))) (rw n (t .if1 .taken)))
 
@@ -90,8 +90,8 @@ returns-2 c =
     let end = a .at + (OP-LEN + BUSID-LEN - a .p .filled) in
     let m : end ≤ length (a .piece .now) = omega (arith, t .if1 .left, s .pre .3, s .pre .4) in
     let lq = g .grown2 .ensures .3 in
-    feeds _ (a .table) l (a .at) (during w (a .p)) (during w q) (a .piece .now) end (imports (lookedUp (during w q)))
-    (c .imported .ensures l q h (busid-front (q .head) (q .filled) lq (filled-to (a .p) q (a .piece .now) (a .at) end (OP-LEN + BUSID-LEN) m (g .grown2 .ensures) (s .pre .3) refl)))
+    feeds _ (a .table) (a .link) l (a .at) (a .p) q (a .piece .now) end (imports (lookedUp (during w q)))
+    (c .imported .ensures l q h (busid-front (q .head) (q .filled) lq (filled-to (a .p) q (a .piece .now) (a .at) end (OP-LEN + BUSID-LEN) m (g .grown2 .ensures) (s .pre .3) refl))) (g .grown2 .ensures .4)
     (λ b. import-ends w (a .p) q (a .piece .now) (a .at) end b (full s) lq m (g .grown2 .ensures) (s .pre .0) (s .pre .2) (s .pre .3) refl)
 
 pub feed-import-spec : {M : Type 1} → statement M

@@ -50,7 +50,7 @@ returns c =
     let n = came s in
     let m : length (take (length (s .args .piece .now)) (drop 0 (s .args .piece .now))) ≡ length (s .args .piece .now) = length-take-le _ _ (omega arith) in
     let f = fits-waiting (s .args .link .phase) (g .grown .result) (s .pre .1) (rw (g .grown .ensures .1) (omega (arith, m, t .if1 .taken))) (g .grown .ensures .2 ∙ s .pre .2) in
-    feeds _ (a .table) l 0 (during w p) (during w (g .grown .result)) (a .piece .now) (length (a .piece .now)) hungry (c .hungry .ensures (a .table) l (rw z (s .pre .0)) f)
+    feeds _ (a .table) (a .link) l 0 p (g .grown .result) (a .piece .now) (length (a .piece .now)) hungry (c .hungry .ensures (a .table) l (rw z (s .pre .0)) f) (g .grown .ensures .4)
     (λ b. part-waits w p (g .grown .result) (a .piece .now) 0 (length (a .piece .now)) b (omega arith) (omega arith) (g .grown .ensures) (rw n (omega (arith, t .if1 .taken)))
     (OP-LEN - length (take (p .filled) (p .head))) refl (calm-8 (during w p) (s .pre .1)) (rw n (omega (arith, t .if1 .taken))))
 
@@ -99,7 +99,7 @@ returns-2 c =
     let m : end ≤ length (a .piece .now) = t .if1 .left in
     let w = whole (a .table) (a .link) l in
     let o = good-first _ (v .request-verdict .result) (v .request-verdict .ensures) (k .before .before .enum-told .given .1) in
-    feeds _ (a .table) l 0 (during w p) (during w q) (a .piece .now) end list (c .listed .ensures (a .table) l q)
+    feeds _ (a .table) (a .link) l 0 p q (a .piece .now) end list (c .listed .ensures (a .table) l q) (g .grown2 .ensures .4)
     (λ b. request-lists w p q (a .piece .now) 0 end b (full s) (g .grown2 .ensures .3) m (g .grown2 .ensures) (s .pre .1) (s .pre .3) (omega arith) (v .before .read-request .result) (v .before .read-request .ensures) o (k .if2 .taken))
 
 feed-import-requires : tie.Need-feed-import-requires
@@ -121,7 +121,7 @@ returns-3 c =
     let w = whole (a .table) (a .link) l in
     let x = k .verdict .given .0 .0 in
     let o = bad-first _ (v .request-verdict .result) x (v .request-verdict .ensures) (k .verdict .given .1) in
-    feeds _ (a .table) l 0 (during w p) (during w q) (a .piece .now) end (breaks (during w q) x) (c .broken .ensures (a .table) l q (s .pre .0) y z)
+    feeds _ (a .table) (a .link) l 0 p q (a .piece .now) end (breaks (during w q) x) (c .broken .ensures (a .table) l q (s .pre .0) y z) (g .grown2 .ensures .4)
     (λ b. request-breaks w p q (a .piece .now) 0 end b (full s) (g .grown2 .ensures .3) m (g .grown2 .ensures) (s .pre .1) (s .pre .3) (omega arith) (v .before .read-request .result) (v .before .read-request .ensures) x o)
 
 returns-4 : tie.Need-returns-4
@@ -139,7 +139,7 @@ returns-4 c =
     let m : end ≤ length (a .piece .now) = t .if1 .left in
     let w = whole (a .table) (a .link) l in
     let o = good-first _ (v .request-verdict .result) (v .request-verdict .ensures) (k .before .before .enum-told .given .1) in
-    feeds-on _ (a .table) l end (during w q) 0 (during w p) (a .piece .now) (c .feed-import .ensures l (rw z (s .pre .0)))
+    feeds-on _ (a .table) (a .link) l end q 0 p (a .piece .now) (c .feed-import .ensures l (rw z (s .pre .0))) (g .grown2 .ensures .4)
     (λ b. request-goes-on w p q (a .piece .now) 0 end b (full s) (g .grown2 .ensures .3) m (g .grown2 .ensures) (s .pre .1) (s .pre .3) (omega arith) (v .before .read-request .result) (v .before .read-request .ensures) o (k .if2 .left))
 
 pub feed-request-spec : {M : Type 1} → statement M

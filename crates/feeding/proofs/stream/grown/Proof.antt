@@ -3,6 +3,7 @@ use Prim.Native.Nat.{_-_}
 use borrow.Rule.Slice.PartMut.{same-len-mid}
 use Rattle.wire.specs.Codes
 use Rattle.wire.proofs.Parts.{filled-front}
+use Rattle.feeding.proofs.Pieces.{filled-padded}
 use Rattle.records.proofs.Records.{unmapped}
 use Rattle.wire.specs.Codes.{HEADER-LEN}
 use lib.ListN.{length}
@@ -39,6 +40,7 @@ returns c =
       refl,
       refl,
       same-len-mid (a .p .filled) (HEADER-LEN - a .p .filled) (a .p .head) (w .write .last .0) (w .write .kept .0) ∙ full s,
+      filled-padded (a .p) (a .bytes .now) (w .write .last .0) (w .write .result) (s .pre) (w .write .ensures),
     )
 
 pub grown-spec : {M : Type 1} → statement M

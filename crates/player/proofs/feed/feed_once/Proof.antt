@@ -28,7 +28,7 @@ returns c =
     let s = f .before .before .before .before .before .before .before in
     let a = f .feed .result .answer in
     tells (s .args .traced) (f .feed .result) (f .feed .last .1 .1 .0) (f .feed .last .1 .1 .1 .0) _ (s .args .out .now) (p .put-feed .last .1 .1 .1 .1 .0) (c .is-end .result) (p .put-feed .result)
-    (f .feed .ensures)
+    (f .feed .ensures .said)
     (c .is-end .ensures (a .setup) (a .dropped))
     (p .put-feed .ensures)
 

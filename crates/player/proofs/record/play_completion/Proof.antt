@@ -33,7 +33,7 @@ returns c =
     let a = m .before .before .args in
     completion-played (a .traced) (a .ticket) (a .status) (a .actual) (d .complete .result) (viewOf (a .session)) (m .device-data .result) _ (a .out .now) _ (k .put-completion .result)
     (m .device-data .ensures)
-    (d .complete .ensures)
+    (d .complete .ensures .said)
     (k .put-completion .ensures)
 
 pub play-completion-spec : {M : Type 1} → statement M

@@ -3,7 +3,7 @@ use mathlib.Core.Option.{Option}
 use mathlib.Core.List.{[]}
 use Rattle.verdicts.proofs.Good.{complete-clear}
 use Rattle.links.proofs.Views.{live-view}
-use Rattle.settling.proofs.Acts.{live-phase, judged-by, complete-refused, complete-returns, returns-one}
+use Rattle.settling.proofs.Acts.{live-phase, judged-by, complete-refused, complete-returns, returns-one, returns-tidy}
 use Rattle.links.proofs.Fits.{one-pending}
 use Rattle.links.specs.Links.{bareOf, viewOf, whole}
 use Rattle.settling.specs.Completing.{asked, handed}
@@ -19,7 +19,7 @@ use Rattle.wire.specs.Writing.{over}
 use Rattle.exports.specs.declared.device.Table.{Table}
 use mathlib.Core.Bool.{true≢false}
 use lib.ListN.{length}
-use mathlib.Core.Path.{_≡_, sym, ap, _∙_}
+use mathlib.Core.Path.{_≡_, refl, sym, ap, _∙_}
 use borrow.Author.Needs.{needs}
 use Rattle.settling.proofs.completion.judge_completion.Statement.{statement}
 use Rattle.settling.proofs.completion.judge_completion.Tie as tie
@@ -89,6 +89,8 @@ returns c =
           λ t′ given buffer hf hh.
           let w = whole t′ (a .link) (a .list) in
           sym (complete-refused (viewOf w) (a .ticket) (a .status) (a .actual) given buffer (g .0 .0) (ap first (sym (judged-by w (k .phase-of .result) (k .phase-of .ensures) (t .search-ticket .result .found) (t .search-ticket .result .transfer) (a .ticket) (a .status) (a .actual) given buffer (t .search-ticket .ensures .0) (t .search-ticket .ensures .1))) ∙ rw (hf, hh) f));
+      same = λ _ _. (refl, refl);
+      tidy = λ _ h. h;
     }
 
 returns-2 : tie.Need-returns-2
@@ -119,6 +121,11 @@ returns-2 c =
           ∙ sym (ap (λ (x : Sess). completeOf x (handed (a .ticket) (a .status) (a .actual) given buffer)) (live-view w l)
           ∙ complete-returns (bareOf w) (a .ticket) (a .status) (a .actual) given buffer u (t .search-ticket .ensures .1)
           (ap (λ (x : Sess). first (completeTests x (handed (a .ticket) (a .status) (a .actual) given buffer))) (sym (live-view w l)) ∙ ap first (sym (judged-by w (k .phase-of .result) (k .phase-of .ensures) (t .search-ticket .result .found) (t .search-ticket .result .transfer) (a .ticket) (a .status) (a .actual) given buffer (t .search-ticket .ensures .0) (t .search-ticket .ensures .1))) ∙ rw (hf, hh) f));
+      same = λ m e. (cc, cc);
+      tidy =
+          λ t′ h.
+          let w = whole t′ (a .link) (a .list) in
+          returns-tidy w (t .search-ticket .result .place) (a .ticket) (r .returned-link .result) (live-phase w (k .phase-of .result) (k .phase-of .ensures) (z .0)) (whole-list s) (t .search-ticket .ensures .2 (z .2)) (r .returned-link .ensures) h;
     }
 
 pub judge-completion-spec : {M : Type 1} → statement M

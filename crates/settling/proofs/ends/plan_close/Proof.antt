@@ -1,5 +1,5 @@
 use Rattle.links.proofs.Views.{live}
-use Rattle.settling.proofs.Acts.{close-refused, close-ends}
+use Rattle.settling.proofs.Acts.{close-ends, close-keeps, shut-tidy}
 use Rattle.events.proofs.Saying.{drops-all, listed-tickets}
 use Rattle.links.proofs.Fits.{counts-known}
 use Rattle.links.specs.Links.{countsFit, phaseOf, viewOf, whole, resting}
@@ -11,7 +11,7 @@ use Rattle.pending.proofs.Laws.{tickets-view}
 use borrow.Author.Tests.{eq-eqb, ne-eqb}
 use mathlib.Core.Bool.{true, false}
 use Prim.Native.Nat.{ℕ, _+_}
-use mathlib.Core.Path.{_≡_, sym, ap, _∙_}
+use mathlib.Core.Path.{_≡_, refl, sym, ap, _∙_}
 use borrow.Author.Needs.{needs}
 use Rattle.settling.proofs.ends.plan_close.Statement.{statement}
 use Rattle.settling.proofs.ends.plan_close.Tie as tie
@@ -26,8 +26,7 @@ returns c =
     let link = k .before .args .link in
     let s = viewOf (whole t link l) in
     let h : closed s ≡ true = eq-eqb (phaseOf link (l .count)) CLOSED (ap (phaseOf link) n ∙ sym (k .phase-of .ensures) ∙ c .if1 .taken) in
-    let e = close-refused s h in
-    (sym e, ap (λ (x : Close). droppedBeside (x .event)) (sym e))
+    close-keeps _ t link l h refl refl refl
 
 ended-requires : tie.Need-ended-requires
 ended-requires c κs = search needs
@@ -44,10 +43,13 @@ returns-2 c =
     let e = close-ends (viewOf p) h in
     let f = live p h .0 in
     let fits : countsFit (link .counts) (a .pending) ≡ true = ap (countsFit (link .counts)) (sym n) ∙ f in
-    let next = c .ended .ensures fits ∙ ap (λ (x : ℕ). resting CLOSED (link .devid) (record { accepted = link .counts .accepted; returned = link .counts .returned; unlinked = link .counts .unlinked; dropped = link .counts .dropped + x })) (sym n) in (
-      (λ i. record { event = end (tickets-view (listOf l) i); next = drops-all p (link .progress) (c .ended .result) w (counts-known (link .counts) (l .count) f .0) next i }) ∙ sym e,
-      listed-tickets (listOf l) ∙ ap (λ (x : Close). droppedBeside (x .event)) (sym e),
-    )
+    let next = c .ended .ensures fits ∙ ap (λ (x : ℕ). resting CLOSED (link .devid) (record { accepted = link .counts .accepted; returned = link .counts .returned; unlinked = link .counts .unlinked; dropped = link .counts .dropped + x })) (sym n) in
+    record {
+      ended = (λ i. record { event = end (tickets-view (listOf l) i); next = drops-all p (link .progress) (c .ended .result) w (counts-known (link .counts) (l .count) f .0) next i }) ∙ sym e;
+      dropped = listed-tickets (listOf l) ∙ ap (λ (x : Close). droppedBeside (x .event)) (sym e);
+      same = λ m z. (cc, cc);
+      tidy = λ _. shut-tidy t (c .ended .result) (link .devid) _ next;
+    }
 
 pub plan-close-spec : {M : Type 1} → statement M
 plan-close-spec = tie.close (tie.spec phase-of-requires returns ended-requires returns-2)

@@ -1,8 +1,12 @@
 use Rattle.links.specs.Links.{whole, viewOf}
 use Rattle.events.specs.Answers.{closingOf}
+use Rattle.session.proofs.Carrying.{next-same, next-tidy}
+use Rattle.wire.specs.Codes.{SETUP-LEN}
+use mathlib.Core.List.{List}
+use Prim.Native.Nat.{ℕ}
 use Rattle.records.proofs.Records.{unmapped}
 use Rattle.pending.specs.Pending.{MAX-PENDING}
-use lib.ListN.{length}
+use lib.ListN.{length, replicate}
 use mathlib.Core.Path.{_≡_, refl, _∙_}
 use borrow.Author.Needs.{needs}
 use Rattle.session.proofs.state.Session.close.Statement.{statement}
@@ -28,10 +32,14 @@ returns c =
     let b = e .before .before .before in
     let s = b .args .self in
     let q = e .plan-close .result in
-    let k = e .plan-close .ensures (s .table) (s .pending) (whole-list b) refl in (
-      (λ i. record { event = closingOf (q .answer) (d .dropped-tickets .ensures i); next = viewOf (whole (s .table) (q .link) (l .changed-list .ensures i)) }) ∙ k .0,
-      d .dropped-tickets .ensures ∙ k .1,
-    )
+    let k = e .plan-close .ensures (s .table) (s .pending) (whole-list b) refl in
+    let setup : List ℕ = replicate SETUP-LEN 0 in
+    record {
+      said = (λ i. record { event = closingOf (q .answer) (d .dropped-tickets .ensures i); next = viewOf (whole (s .table) (q .link) (l .changed-list .ensures i)) }) ∙ k .ended;
+      dropped = rw (d .dropped-tickets .ensures, k .dropped);
+      same = λ n h. next-same s (q .link) (l .changed-list .result) (q .change) setup (l .changed-list .ensures) (k .same n h);
+      tidy = λ h. next-tidy s (q .link) (l .changed-list .result) (q .change) setup (l .changed-list .ensures) (k .tidy h);
+    }
 
 pub close-spec : {M : Type 1} → statement M
 close-spec =

@@ -2,6 +2,7 @@ use Rattle.links.specs.Links.{whole, viewOf}
 use Rattle.events.specs.Answers.{eventOf}
 use Rattle.events.specs.Plans.{replyBytes}
 use Rattle.model.specs.Cut.{lent}
+use Rattle.session.proofs.Carrying.{next-same, next-tidy}
 use Rattle.wire.proofs.Parts.{wrote-all, wrote-count}
 use mathlib.Core.Path.{refl, _∙_}
 use borrow.Author.Needs.{needs}
@@ -39,18 +40,24 @@ returns c =
     let s = f .before .before .before .before .before in
     let a = s .args in
     let q = f .plan-feed .result in
-    let room = f .plan-feed .ensures .takes (r .write-reply .ensures .1) in
-    (λ i.
+    let k = f .plan-feed .ensures in
+    let room = k .takes (r .write-reply .ensures .1) in
     record {
-      event = eventOf (q .event) (q .setup) (t .dropped-tickets .ensures i);
-      setup = q .setup;
-      dropped = t .dropped-tickets .ensures i;
-      used = q .consumed;
-      written = wrote-count (replyBytes (a .self .table) (q .reply)) (a .reply .now) _ (r .write-reply .result) room (r .write-reply .ensures .0) i;
-      buffers = lent (d .copy-data .ensures i) (wrote-all (replyBytes (a .self .table) (q .reply)) (a .reply .now) _ (r .write-reply .result) room (r .write-reply .ensures .0) i);
-      next = viewOf (whole (a .self .table) (q .link) (l .changed-list .ensures i));
-    })
-    ∙ f .plan-feed .ensures .fed (lent (a .work .now) (a .reply .now)) refl refl
+      said =
+          (λ i.
+          record {
+            event = eventOf (q .event) (q .setup) (t .dropped-tickets .ensures i);
+            setup = q .setup;
+            dropped = t .dropped-tickets .ensures i;
+            used = q .consumed;
+            written = wrote-count (replyBytes (a .self .table) (q .reply)) (a .reply .now) _ (r .write-reply .result) room (r .write-reply .ensures .0) i;
+            buffers = lent (d .copy-data .ensures i) (wrote-all (replyBytes (a .self .table) (q .reply)) (a .reply .now) _ (r .write-reply .result) room (r .write-reply .ensures .0) i);
+            next = viewOf (whole (a .self .table) (q .link) (l .changed-list .ensures i));
+          })
+          ∙ k .fed (lent (a .work .now) (a .reply .now)) refl refl;
+      same = λ n z. next-same (a .self) (q .link) (l .changed-list .result) (q .change) (q .setup) (l .changed-list .ensures) (k .same n z);
+      tidy = λ z. next-tidy (a .self) (q .link) (l .changed-list .result) (q .change) (q .setup) (l .changed-list .ensures) (k .tidy z);
+    }
 
 pub feed-spec : {M : Type 1} → statement M
 feed-spec =

@@ -1,6 +1,4 @@
-use Rattle.session.proofs.Opening.{open-good, open-bad}
-use Rattle.session.specs.Views.{viewOf}
-use mathlib.Core.Path.{ap, _∙_}
+use Rattle.session.proofs.Opening.{open-good, open-bad, opens-as}
 use borrow.Author.Needs.{needs}
 use Rattle.session.proofs.state.Session.open.Statement.{statement}
 use Rattle.session.proofs.state.Session.open.Tie as tie
@@ -15,7 +13,7 @@ returns : tie.Need-returns
 returns c =
     let k = c .before .before in
     let g = open-good (k .before .args .table) (k .is-good .result) (k .is-good .ensures) (c .before .if1 .taken) in
-    (g .0, ap viewOf (c .fresh-session .ensures) ∙ g .1)
+    opens-as _ _ _ _ (c .fresh-session .ensures) g
 
 fresh-session-requires-2 : tie.Need-fresh-session-requires-2
 fresh-session-requires-2 c κs = search needs
@@ -24,7 +22,7 @@ returns-2 : tie.Need-returns-2
 returns-2 c =
     let k = c .before .before .before in
     let g = open-bad (k .before .args .table) (k .is-good .result) (k .is-good .ensures) (c .before .before .if1 .left) in
-    (g .0, ap viewOf (c .fresh-session2 .ensures) ∙ g .1)
+    opens-as _ _ _ _ (c .fresh-session2 .ensures) g
 
 pub open-spec : {M : Type 1} → statement M
 open-spec =
