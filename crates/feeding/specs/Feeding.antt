@@ -9,7 +9,7 @@ use Rattle.pending.specs.declared.list.Pending.{Pending}
 use Rattle.verdicts.specs.Limits
 use Rattle.model.specs.Machine.{Fed}
 use Rattle.model.specs.Model.{Sess, Event, Buffers, bodyOf, feedBytes, feedOf}
-use Rattle.model.specs.Cut.{replied}
+use Rattle.model.specs.Cut.{written}
 use Rattle.links.specs.Links.{during, whole, viewOf, Clean, Padded, Tidy}
 use Rattle.events.specs.Answers.{setupBeside, droppedBeside}
 use Rattle.events.specs.Plans.{Said, replyBytes, carried, leaves, Placed}
@@ -27,7 +27,7 @@ saying s piece r =
       setup = setupBeside (r .event);
       dropped = droppedBeside (r .event);
       used = r .used;
-      written = length (replied s piece r);
+      written = written s piece r;
       buffers = r .buffers;
       next = r .next;
     }

@@ -1,5 +1,7 @@
 -- The three demands of the mission, each with the claims that make it up. What an act answers, leaves and writes is its contract
 -- (Acts.antt), for every input; the claims here speak of the definitions that those contracts name, and of the code's own runs.
+use Rattle.listing.specs.Lists.{ListsAll}
+use Rattle.transmit.specs.Part.{SentWhole, ReplySent}
 use Rattle.model.specs.Claims
 use Rattle.model.specs.Corollaries
 use Rattle.model.specs.Cut
@@ -13,11 +15,16 @@ use Rattle.session.specs.Run.{CodeRun, SameStruct, CodeRefuses}
 abbrev pub Demand1 : Type 0
 Demand1 = Corollaries.OpenIff × Corollaries.RefusedIff × Corollaries.EmptyPiece × Cut.Untouched × Cut.Keeps × CodeRefuses
 
--- "A submit is accepted exactly when our rules allow it .. the stream may be cut anywhere", also that of the code's own feeds: to the
--- very struct. The starred exchanges are computed.
+-- "replies written exactly as the kernel's USB/IP document lays them out": a good table's list is whole, and the reply to a completion
+-- goes out whole, in order. "A submit is accepted exactly when our rules allow it .. the stream may be cut anywhere", also that of
+-- the code's own feeds: to the very struct. The starred exchanges are computed.
 abbrev pub Demand2 : Type 0
 Demand2 =
-    Corollaries.AcceptIff
+    ListsAll
+    × SentWhole
+    × ReplySent
+    × Corollaries.CompletionSent
+    × Corollaries.AcceptIff
     × Corollaries.AttachedTo
     × Corollaries.AnsweredStays
     × Corollaries.Consumption
