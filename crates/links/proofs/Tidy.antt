@@ -1,15 +1,14 @@
 -- What the view hides.
-use Prim.Native.Nat.{ℕ, zero, suc, _+_, _-_, _≤_}
+use Prim.Native.Nat.{ℕ, _-_}
 use native.Mathlib.Omega.{arith}
 use mathlib.Core.Path.{_≡_, refl, sym, ap, subst, _∙_}
-use mathlib.Core.List.{List, [], _∷_, _++_}
-use lib.ListN.{length, take, drop, replicate, length-drop, take-append-drop, drop-of-length-le}
+use mathlib.Core.List.{List, _++_}
+use lib.ListN.{length, take, replicate, take-append-drop, drop-of-length-le}
 use lib.Seq.{length-take-le}
 use Rattle.wire.specs.Codes
-use Rattle.pending.specs.declared.list.Pending.{Pending}
 use Rattle.pending.proofs.Laws.{sound-view}
 use Rattle.model.specs.Model.{Sess}
-use Rattle.links.specs.Links.{Parts, viewOf, noProgress, headed, resting, Padded, Tidy, OneStruct}
+use Rattle.links.specs.Links.{noProgress, resting, Padded, OneStruct}
 use Rattle.links.specs.declared.Counts.{Counts}
 use Rattle.links.specs.declared.Progress.{Progress}
 use Rattle.links.specs.declared.Link.{Link}

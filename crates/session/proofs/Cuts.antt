@@ -1,5 +1,5 @@
 -- The code's own feeds drain a stream as the definitions do.
-use Prim.Native.Nat.{ℕ, zero, suc, _+_, _-_, _≤_, _<_}
+use Prim.Native.Nat.{ℕ, zero, suc, _+_, _-_, _<_}
 use native.Mathlib.Omega.{arith}
 use native.Mathlib.Nat.{zero-add}
 use mathlib.Core.Path.{_≡_, refl, sym, ap, subst, _∙_}
@@ -8,11 +8,9 @@ use mathlib.Core.List.{List, [], _∷_, _++_, map}
 use mathlib.Core.Option.{none, some}
 use lib.ListN.{length, drop, length-append, length-drop}
 use lib.Seq.{length-sets}
-use Rattle.verdicts.specs.Limits
 use Rattle.verdicts.specs.Tests.{pick}
 use Rattle.model.specs.Machine
-use Rattle.model.specs.Machine.{Ran, drain, drainAll, idle, empty}
-use Rattle.model.specs.Model
+use Rattle.model.specs.Machine.{Ran, drain, drainAll, idle}
 use Rattle.model.specs.Model.{Sess, Event, Buffers, isHungry, closed, feedOf}
 use Rattle.model.specs.Cut
 use Rattle.model.specs.Cut.{Enough, answer, answersOf}

@@ -8,9 +8,8 @@ use Rattle.pending.specs.Pending.{tickets}
 use Rattle.pending.specs.declared.list.Tickets.{Tickets}
 use Rattle.verdicts.specs.Limits
 use Rattle.model.specs.Machine.{Fed}
-use Rattle.model.specs.Model
-use Rattle.model.specs.Model.{Sess, Event, Buffers, Complete, Close, openOf, feedOf, completeOf, closeOf}
-use Rattle.model.specs.Book.{Call, Answer, Book, Item, opened, keep, pendingOf}
+use Rattle.model.specs.Model.{Sess, Event, Buffers, Complete, Close, openOf, feedOf, closeOf}
+use Rattle.model.specs.Book.{Answer, Book, Item, opened, keep, pendingOf}
 use Rattle.model.specs.Claims
 use Rattle.model.specs.Claims.{Holds, Right, RightRequest, RightMessage, byPhase, answerTo}
 use Rattle.model.specs.Corollaries.{sessionAfter, bookAfter}
@@ -18,7 +17,6 @@ use Rattle.model.proofs.Facts.{differ}
 use Rattle.model.proofs.Runs.{every-run}
 use Rattle.model.proofs.Untouched.{untouched, keeps}
 use Rattle.exports.specs.declared.device.Table.{Table}
-use Rattle.links.specs.Links.{Parts}
 use Rattle.links.proofs.Tidy.{one-struct}
 use Rattle.events.specs.Plans.{Said}
 use Rattle.events.specs.Answers.{openAnswer, eventOf, completionOf, closingOf, ticketsOf, droppedBeside}

@@ -7,6 +7,7 @@ use mathlib.Core.Bool.{Bool, true, false, true≢false}
 use mathlib.Core.List.{List, []}
 use mathlib.Core.Option.{none, some}
 use lib.Dec.{eqb}
+use borrow.Author.Tests.{eq-eqb}
 use lib.ListN.{length, replicate, List·getD-eq-default}
 use Rattle.wire.specs.Codes
 use Rattle.wire.specs.Writing.{over}
@@ -130,9 +131,10 @@ shut-tidy t k devid c e =
     (record { list = (empty-whole, empty-sound); head = none-padded; phase = sym (ap (λ (x : Sess). x .phase) (view-shut t devid c emptyPending)) })
 
 -- a refusal of what is left as it was
-pub close-keeps : (r : Ending) (t : Table) (k : Link) (l : Pending) → Model.closed (viewOf (whole t k l)) ≡ true → r .link ≡ k → r .change ≡ Keep → r .answer ≡ Refused Limits.SESSION-CLOSED → Ends r t k l
-close-keeps r t k l h p c a =
-    let e = close-refused (viewOf (whole t k l)) h in
+pub close-keeps : (r : Ending) (t : Table) (k : Link) (l : Pending) (pending phase : ℕ) → l .count ≡ pending → phase ≡ phaseOf k pending → phase ≡ Limits.CLOSED
+    → r .link ≡ k → r .change ≡ Keep → r .answer ≡ Refused Limits.SESSION-CLOSED → Ends r t k l
+close-keeps r t k l pending phase n f h p c a =
+    let e = close-refused (viewOf (whole t k l)) (eq-eqb (phaseOf k (l .count)) Limits.CLOSED (ap (phaseOf k) n ∙ sym f ∙ h)) in
     record {
       ended = (λ i. record { event = closingOf (a i) (droppedBy l (c i)); next = viewOf (whole t (p i) (changed l (c i) (replicate Codes.SETUP-LEN 0))) }) ∙ sym e;
       dropped = ap (droppedBy l) c ∙ ap (λ (x : Model.Close). droppedBeside (x .event)) (sym e);

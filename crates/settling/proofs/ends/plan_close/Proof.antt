@@ -8,10 +8,10 @@ use Rattle.model.specs.Model.{Close, closed, end}
 use Rattle.verdicts.specs.Limits.{CLOSED}
 use Rattle.pending.specs.Pending.{listOf}
 use Rattle.pending.proofs.Laws.{tickets-view}
-use borrow.Author.Tests.{eq-eqb, ne-eqb}
+use borrow.Author.Tests.{ne-eqb}
 use mathlib.Core.Bool.{true, false}
 use Prim.Native.Nat.{ℕ, _+_}
-use mathlib.Core.Path.{_≡_, refl, sym, ap, _∙_}
+use mathlib.Core.Path.{_≡_, sym, ap, _∙_}
 use borrow.Author.Needs.{needs}
 use Rattle.settling.proofs.ends.plan_close.Statement.{statement}
 use Rattle.settling.proofs.ends.plan_close.Tie as tie
@@ -20,13 +20,7 @@ phase-of-requires : tie.Need-phase-of-requires
 phase-of-requires c κs = search needs
 
 returns : tie.Need-returns
-returns c =
-    λ t l w n.
-    let k = c .before in
-    let link = k .before .args .link in
-    let s = viewOf (whole t link l) in
-    let h : closed s ≡ true = eq-eqb (phaseOf link (l .count)) CLOSED (ap (phaseOf link) n ∙ sym (k .phase-of .ensures) ∙ c .if1 .taken) in
-    close-keeps _ t link l h refl refl refl
+returns c = λ t l w n. search close-keeps
 
 ended-requires : tie.Need-ended-requires
 ended-requires c κs = search needs
