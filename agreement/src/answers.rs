@@ -96,6 +96,7 @@ fn flat_event(event: &Event) -> FlatEvent {
         Event::List => bare(1, 0, 0),
         Event::Import { status } => bare(2, 0, *status),
         Event::Accepted(urb) => FlatEvent {
+            ticket: urb.ticket,
             transfer: transfer(urb),
             ..bare(3, 0, 0)
         },
@@ -115,13 +116,12 @@ fn flat_event(event: &Event) -> FlatEvent {
 
 fn transfer(urb: &Urb) -> Transfer {
     Transfer {
-        ticket: urb.ticket,
         seqnum: urb.seqnum,
         direction: urb.direction,
         ep: urb.ep,
         flags: urb.transfer_flags,
         length: urb.transfer_buffer_length,
-        frame: urb.start_frame,
+        start: urb.start_frame,
         packets: urb.number_of_packets,
         interval: urb.interval,
     }

@@ -11,20 +11,20 @@ pub struct FlatEvent {
     pub number: u32,
     pub status: u32,
     pub removed: u64,
+    pub ticket: u64,
     pub transfer: Transfer,
 }
 
-/// An accepted submit, without its setup bytes.
+/// An accepted submit, without its ticket and its setup bytes.
 #[repr(C)]
 #[derive(Clone, Copy, Debug, Default, PartialEq, Eq)]
 pub struct Transfer {
-    pub ticket: u64,
     pub seqnum: u32,
     pub direction: u32,
     pub ep: u32,
     pub flags: u32,
     pub length: u32,
-    pub frame: u32,
+    pub start: u32,
     pub packets: u32,
     pub interval: u32,
 }

@@ -197,6 +197,6 @@ fn main() {
         &|n, b| proved::unlinks(n, import, asked, missing, b),
         &|n, b| plain::unlinks(n, import, asked, missing, b),
     );
-    copy("copy of 7,424 bytes (one session)", 7_424);
+    copy("copy of 7,472 bytes (one session)", 7_472);
     copy("copy of 16,384 bytes", DATA);
 }

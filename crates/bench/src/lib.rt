@@ -105,7 +105,7 @@ fn exchange(
     let answer = fed.answer;
     let event = answer.event;
     match event {
-        Event::Submit(u) => completed(next, u.ticket, u.length, data, header),
+        Event::Submit(ticket, u) => completed(next, ticket, u.length, data, header),
         _ => Round {
             session: next,
             add: 0,

@@ -10,13 +10,13 @@ use lib.ListN.{length, take, drop, length-take}
 use lib.Seq.{take-take}
 use borrow.Author.Tests.{ltb-true, ltb-false}
 use Rattle.tape.specs.Layout
-use Rattle.tape.specs.Tape.{Settled}
+use Rattle.tape.specs.Tape.{ReadsAlike}
 use Rattle.tape.proofs.Wanted.{enough, wanted-room}
 use Rattle.console.specs.Windows.{windowOf, Inside, Refilled}
 use Rattle.console.specs.declared.input.Window.{Window}
 
 -- nothing was read
-pub as-it-was : (w : Window) (buffer : List ℕ) → Inside w buffer → (w .over ≡ true) ⊎ Settled (windowOf w buffer) → Refilled w w buffer buffer
+pub as-it-was : (w : Window) (buffer : List ℕ) → Inside w buffer → (w .over ≡ true) ⊎ ReadsAlike (windowOf w buffer) → Refilled w w buffer buffer
 as-it-was w buffer i s =
     record {
       inside = i;
@@ -33,7 +33,8 @@ module _ (w : Window) (before after : List ℕ) (got : ℕ) where
   next over = record { at = 0; end = left + got; over = over }
 
   -- the buffer is full, or the input has ended
-  pub read-on : Inside w before → Layout.MAX-RECORD-LEN ≤ length before → length after ≡ length before → left + got ≤ length before → take left after ≡ windowOf w before
+  pub read-on : Inside w before → Layout.MAX-RECORD-LEN ≤ length before → length after ≡ length before → left + got ≤ length before
+      → take left after ≡ windowOf w before
       → (over : Bool) → over ≡ ltb (left + got) (length before) → Refilled w (next over) before after
   read-on i m e h k over o =
       record {
@@ -43,7 +44,7 @@ module _ (w : Window) (before after : List ℕ) (got : ℕ) where
         ended = λ t. inr (omega (arith, ltb-true (left + got) (length before) (sym o ∙ t)));
       }
     where
-      at : (c : Bool) → c ≡ ltb (left + got) (length before) → (c ≡ true) ⊎ Settled (windowOf (next c) after)
+      at : (c : Bool) → c ≡ ltb (left + got) (length before) → (c ≡ true) ⊎ ReadsAlike (windowOf (next c) after)
       at true p = inl refl
       at false p =
           let full = ltb-false (left + got) (length before) (sym p) in

@@ -7,7 +7,7 @@ use mathlib.Core.List.{List}
 use lib.Dec.{leb}
 use lib.ListN.{length}
 use Rattle.tape.specs.Layout.{MAX-RECORDS}
-use Rattle.tape.specs.Tape.{lengthOf, readOf, nextOf}
+use Rattle.tape.specs.Tape.{lengthOf, readOf, readBehind}
 use Rattle.tape.specs.declared.reader.Record.{Record}
 use Rattle.tape.specs.declared.reader.Read.{Read}
 use Rattle.tape.proofs.Reading.{read-whole}
@@ -16,5 +16,5 @@ by : (bytes : List ℕ) (r : Record) (c : Bool) → cond c Read.Bad (readOf byte
 by bytes r true e = let z : _≡_ {A = ℕ} 0 1 = cc in omega arith
 by bytes r false e = read-whole bytes r e
 
-pub next-whole : (before : ℕ) (bytes : List ℕ) (r : Record) → nextOf before bytes ≡ Read.Record r → lengthOf r ≤ length bytes
+pub next-whole : (before : ℕ) (bytes : List ℕ) (r : Record) → readBehind before bytes ≡ Read.Record r → lengthOf r ≤ length bytes
 next-whole before bytes r e = by bytes r (leb MAX-RECORDS before) e

@@ -5,7 +5,7 @@ use mathlib.Core.Bool.{true}
 use mathlib.Core.List.{List}
 use mathlib.Core.Logic.{_⊎_}
 use lib.ListN.{length, take, drop}
-use Rattle.tape.specs.Tape.{Settled}
+use Rattle.tape.specs.Tape.{ReadsAlike}
 use Rattle.console.specs.declared.input.Window.{Window}
 
 -- The bytes of a window.
@@ -21,5 +21,5 @@ Inside w buffer = (w .at ≤ w .end) × (w .end ≤ length buffer)
 pub record Refilled (w r : Window) (before after : List ℕ) : Type 0 where
   pub inside : Inside r after
   pub kept : take (w .end - w .at) (windowOf r after) ≡ windowOf w before
-  pub settled : (r .over ≡ true) ⊎ Settled (windowOf r after)
+  pub settled : (r .over ≡ true) ⊎ ReadsAlike (windowOf r after)
   pub ended : r .over ≡ true → (w .over ≡ true) ⊎ (r .end < length after)

@@ -10,6 +10,8 @@ use crate::input::refill;
 use crate::output::OUTPUT_LEN;
 use crate::output::flush;
 use crate::output::make_room;
+use limits::REPLY_LEN;
+use limits::WORK_LEN;
 use lines::replay::bad_tape_line;
 use lines::replay::end_line;
 use player::record::play_record;
@@ -19,8 +21,6 @@ use tape::reader::Read;
 use tape::reader::read_next;
 use tape::reader::record_len;
 use tape::table::tape_table;
-use verdicts::limits::REPLY_LEN;
-use verdicts::limits::WORK_LEN;
 ghost use Prim.Native.Nat.{_≤_};
 ghost use lib.ListN.{length};
 ghost use Rattle.tape.specs.Layout;
@@ -51,7 +51,6 @@ fn play_records(
         window = refill(input, window);
         let at = window.at;
         let end = window.end;
-        let over = window.over;
         if at == end {
             flush(out, len);
             return s;
@@ -66,11 +65,7 @@ fn play_records(
         s = played.session;
         len += played.len;
         let next = at + record_len(r);
-        window = Window {
-            at: next,
-            end: end,
-            over: over,
-        };
+        window = Window { at: next, ..window };
         n += 1;
     }
     s

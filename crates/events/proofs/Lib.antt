@@ -1,2 +1,2 @@
--- Why the code is what the definitions say.
+-- Why the plan of each event, carried out, is what the definitions say.
 pub mod Saying

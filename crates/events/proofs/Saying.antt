@@ -1,242 +1,355 @@
--- What the code says is what the definitions say.
-use Prim.Native.Nat.{ℕ, suc, _+_, _*_, _≤_, _<_}
-use native.Mathlib.Omega.{arith}
-use mathlib.Core.Path.{_≡_, refl, sym, ap, subst, _∙_}
-use mathlib.Core.Bool.{Bool, true, false}
-use mathlib.Core.List.{List}
-use lib.Dec.{ltb}
-use lib.Seq.{take-all}
-use lib.ListN.{length, take, getD, replicate, length-map}
-use borrow.Author.Tests.{ltb-true, ltb-false}
-use mathlib.Core.Logic.{inl, inr}
-use Rattle.wire.specs.Codes
-use Rattle.wire.specs.Writing.{over}
-use Rattle.exports.specs.declared.device.Table.{Table}
-use Rattle.messages.specs.Messages.{busidOf, submitOf, unlinkOf, retSubmit}
-use Rattle.messages.specs.declared.message.Submit.{Submit}
-use Rattle.exports.specs.Devices.{noDevice, devicesOf}
-use Rattle.exports.specs.declared.device.Device.{Device}
-use Rattle.lookup.specs.Lookup.{findIn}
-use Rattle.lookup.specs.declared.Found.{Found}
-use Rattle.lookup.specs.declared.Found.the-variants.{At as FoundAt}
-use Rattle.pending.specs.Pending.{MAX-PENDING, ticketOf, seqnumOf, tickets, listOf, findBy, placeBy, urbAt, emptyPending, listing, appended, withoutFirst}
-use Rattle.pending.proofs.Finding.{place-at, place-none, find-some}
-use Rattle.pending.specs.declared.list.Place.{Place}
-use Rattle.pending.specs.declared.list.Place.the-variants.{At, Nothing}
-use Rattle.model.proofs.Facts.{mem-found, clash}
-use Rattle.wire.specs.Status.{minus}
-use Rattle.messages.specs.declared.message.Unlink.{Unlink}
-use Rattle.pending.proofs.Laws.{view-length, append-view, append-count, append-whole, append-sound, remove-whole, remove-sound, empty-whole, empty-sound}
-use Rattle.pending.specs.declared.urb.Urb.{Urb}
-use Rattle.pending.specs.declared.list.Pending.{Pending}
-use Rattle.verdicts.specs.Limits
-use Rattle.verdicts.specs.Tests.{Test, first, decide, pick}
-use Rattle.verdicts.specs.Verdicts.{submitTests, submitRows}
-use Rattle.verdicts.proofs.Match.{clear}
-use Rattle.verdicts.proofs.Tables.{submit-match}
-use Rattle.model.specs.Model.{Sess, Event, tell, after, replyTo, between, act, drop-all, lookedUp, urbFrom, urbOf, submitted, unlinks}
-use Rattle.model.specs.Cut.{lent}
-use Rattle.links.specs.Links.{Parts, countsFit, during, viewOf, whole, resting, headed, Attached, Clean, Padded}
-use Rattle.events.specs.Answers.{eventOf, setupBeside, droppedBeside, ticketsOf}
-use Rattle.events.specs.Plans.{droppedBy, changed, leaves, replyBytes, dataOf, plain, Placed, Says, told}
-use Rattle.links.proofs.Fits.{counts-known, even-counts}
-use Rattle.links.proofs.Views.{view-shut, view-attached}
-use Rattle.links.proofs.Tidy.{rest-padded}
-use mathlib.Core.Option.{Option, none, some}
-use native.Mathlib.Nat.{add-zero}
+-- The plan of an event, carried out, is that event of the definitions.
+use Prim.Native.Nat.{ℕ, suc, _+_, _≤_, _<_}
 use native.Mathlib.Numerals.{add-one}
-use Rattle.links.specs.declared.Progress.{Progress}
+use native.Mathlib.Omega.{arith}
+use mathlib.Core.Path.{_≡_, refl, sym, ap, _∙_}
+use mathlib.Core.Bool.{Bool, true, false, cond}
+use mathlib.Core.List.{List, []}
+use mathlib.Core.Logic.{inl, inr}
+use mathlib.Core.Option.{Option, none, some}
+use lib.Dec.{ltb}
+use lib.ListN.{length, take, drop, set, getD, length-map, length-take}
+use lib.Seq.{take-take, take-set-le, getD-take, paste}
+use borrow.Author.Tests.{lt-ltb, le-leb}
+use native.Mathlib.Nat.{lt-of-not-le}
+use Rattle.wire.specs.Codes
+use Rattle.wire.specs.Status.{minus}
+use Rattle.ground.specs.Writing.{over}
+use Rattle.messages.specs.Messages.{busidOf, unlinkSeqnum}
+use Rattle.messages.specs.declared.message.Header.{Header}
+use Rattle.exports.specs.Devices.{devicesOf, noDevice}
+use Rattle.exports.specs.declared.device.Table.{Table}
+use Rattle.lookup.specs.Lookup.{deviceIn, devidIn}
+use Rattle.lookup.proofs.First.{find-first}
+use Rattle.lookup.specs.declared.Found.the-variants.{At as FoundAt, Nothing}
+use Rattle.pending.specs.Changes.{changed, keeps, appends, removes, clears}
+use Rattle.pending.specs.Looks.{lookBy}
+use Rattle.pending.specs.Pending.{blank, ticketOf, seqnumOf, tickets, findBy, At, placeBy, listOf, Whole}
+use Rattle.pending.specs.declared.change.Change.{Change}
+use Rattle.pending.specs.declared.list.Pending.{Pending}
+use Rattle.pending.specs.declared.look.Look.{Look}
+use Rattle.pending.specs.declared.urb.Urb.{Urb}
+use Rattle.pending.proofs.Finding.{look-none, look-some, look-place}
+use Rattle.pending.proofs.Laws.{view-length, changed-whole, changed-count, keep-is, append-view, append-count, append-sound, remove-view, remove-count}
+use Rattle.pending.proofs.Laws.{remove-sound, clear-view, clear-sound, tickets-view}
+use Rattle.limits.specs.Limits
+use Rattle.ground.specs.Tests.{Test, first, decide, by-first, pick}
+use Rattle.verdicts.specs.Verdicts.{submitTests, submitRows}
+use Rattle.verdicts.specs.declared.verdict.Fault.{Fault}
+use Rattle.ground.proofs.Match.{clear}
+use Rattle.verdicts.proofs.Tables.{submit-match}
+use Rattle.model.specs.State
+use Rattle.model.specs.State.{Message, headed, bytesIn, Sess, unlinked, oneAccepted}
+use Rattle.model.specs.Answers.{done, Event, hungry, list, import, submit, answer, unlink}
+use Rattle.model.specs.Judging.{breaks, urbOf, submitted, unlinks, lookedUp}
+use Rattle.model.specs.Acts.{Buffers, after, between, drops, replyTo, writeReply}
+use Rattle.model.specs.Cut.{lent}
+use Rattle.links.specs.Links.{countsFit, progressFits, messageOf, during, viewOfParts, whole, linkWithProgress, resting, plus, endedLink, Attached, Clean}
+use Rattle.links.specs.Links.{Padded, TidyParts}
+use Rattle.links.specs.declared.link.Link.{Link}
+use Rattle.links.specs.declared.link.Progress.{Progress}
+use Rattle.links.proofs.Fits.{counts-known, even-counts, plus-fits}
+use Rattle.links.proofs.Tidy.{none-padded}
+use Rattle.links.proofs.Views.{view-fit, view-shut, view-attached}
+use Rattle.events.specs.Answers.{eventOf, noSetup, setupBeside, ticketsOf, droppedBy}
+use Rattle.events.specs.Plans.{Result, plain, withSetup, hungryPlan, brokenPlan, answeredPlan, acceptedPlan, submittedPlan, removedPlan, missedPlan}
+use Rattle.events.specs.Plans.{unlinkedPlan, listPlan, unknownPlan, importPlan, replyBytes, requestBytes, partsAfter, ticketsDropped, carriedWith}
 use Rattle.events.specs.declared.answer.Event.{Event as Case}
-use Rattle.links.specs.declared.Counts.{Counts}
-use Rattle.links.specs.declared.Link.{Link}
-use Rattle.events.specs.declared.plan.Change.{Change}
-use Rattle.events.specs.declared.plan.Change.the-variants.{Keep, Append, Remove, Clear}
-use Rattle.events.specs.declared.plan.Reply.{Reply}
 use Rattle.events.specs.declared.plan.Plan.{Plan}
-use lib.Seq.{sets}
+use Rattle.events.specs.declared.plan.Reply.{Reply}
 
--- ## The plan
+-- what a feed answers and leaves when an event is said, with a session's bytes in
+unfoldable pub resultAt : Sess → Buffers → ℕ → Event → Result
+resultAt s b consumed e =
+    record {
+      event = done e;
+      setup = setupBeside (done e);
+      dropped = ticketsOf (droppedBy (done e));
+      consumed = consumed;
+      length = length (replyTo s e);
+      buffers = writeReply s e b;
+      next = after s e;
+    }
 
--- the list stays clean, whatever the change
-pub changed-clean : (l : Pending) (c : Change) (setup : List ℕ) → Clean l → Clean (changed l c setup)
-changed-clean l Keep setup h = h
-changed-clean l (Append u) setup h = (append-whole l _ (h .0), append-sound l _ (h .1))
-changed-clean l (Remove i) setup h = (remove-whole l i (h .0), remove-sound l i (h .0) (h .1))
-changed-clean l Clear setup h = (empty-whole, empty-sound)
+-- a plan with this reply says an event in a session with this message in progress, whatever the piece and the buffers are; it copies
+-- nothing, and what it leaves is tidy if the list and the message are
+pub record Says (bytes : List ℕ) (r : Plan) (t : Table) (k : Link) (l : Pending) (m : Message) (consumed : ℕ) (e : Event) : Type 0 where
+  pub copies : (r .body ≡ 0) × (r .from ≡ 0) × (r .to ≡ 0)
+  pub said : (piece : List ℕ) (b : Buffers) → carriedWith bytes t l r piece b ≡ resultAt (during (whole t k l) m) b consumed e
+  pub tidy : Clean l → Padded (r .link .progress) → TidyParts (partsAfter t l r)
 
-module _ (r : Plan) (t : Table) (o : Link) (l : Pending) (p : Progress) (used : ℕ) (e : Event) where
+-- ## A plan, part by part
+
+-- one that copies nothing
+module _ (t : Table) (k : Link) (l : Pending) (m : Message) (e : Event) where
   abbrev s : Sess
-  s = during (whole t o l) p
+  s = during (whole t k l) m
 
-  -- part by part
-  pub says : eventOf (r .event) (r .setup) (droppedBy l (r .change)) ≡ e → r .setup ≡ setupBeside e → droppedBy l (r .change) ≡ droppedBeside e → r .consumed ≡ used
-      → replyBytes t (r .reply) ≡ replyTo s e → Placed t (r .reply) → (r .body ≡ 0) × (r .from ≡ 0) × (r .to ≡ 0)
-      → viewOf (leaves t l r) ≡ after s e → (Padded p → Padded (r .link .progress)) → r .link .phase ≡ after s e .phase → Says r t o l p used e
-  unfolding told tell
-  says n q d u x h z v f m =
+  says : (next : Link) (c : Change) (n : Case) (consumed : ℕ) (reply : Reply) (setup bytes : List ℕ)
+      → eventOf n setup (ticketsDropped l c) ≡ done e → setup ≡ setupBeside (done e) → ticketsDropped l c ≡ ticketsOf (droppedBy (done e))
+      → bytes ≡ replyTo s e → viewOfParts (whole t next (changed l c)) ≡ after s e → next .phase ≡ after s e .link .phase → (Clean l → Clean (changed l c))
+      → Says bytes (withSetup setup (plain next c n consumed reply)) t k l m consumed e
+  unfolding resultAt writeReply
+  says next c n consumed reply setup bytes v u d x w p g =
       record {
-        placed = h;
-        copies = z;
-        told =
-            λ piece b.
-            let w : sets (b .work) (r .body) (dataOf r piece) ≡ b .work = rw (z .0, z .1, z .2) in
-            λ i. record { event = n i; setup = q i; dropped = d i; used = u i; written = length (x i); buffers = lent (w i) (over (x i) (b .reply)); next = v i };
-        tidy = λ y g. record { list = changed-clean l (r .change) (r .setup) y; head = f g; phase = m ∙ sym (ap (λ (x : Sess). x .phase) v) };
+        copies = (refl, refl, refl);
+        said =
+            λ piece b i.
+            record {
+              event = v i;
+              setup = u i;
+              dropped = d i;
+              consumed = consumed;
+              length = length (x i);
+              buffers = lent (b .work) (over (x i) (b .reply));
+              next = w i;
+            };
+        tidy = λ y h. record { list = g y; head = h; phase = p ∙ sym (ap (λ (z : Sess). z .link .phase) w) };
       }
 
-  -- an event that nothing stands beside
-  pub plainly : (k : Link) (c : Change) (n : Case) (y : Reply) → r ≡ plain k c n used y → eventOf n (replicate Codes.SETUP-LEN 0) (droppedBy l c) ≡ e → setupBeside e ≡ replicate Codes.SETUP-LEN 0 → droppedBy l c ≡ droppedBeside e
-      → replyBytes t y ≡ replyTo s e → Placed t y → viewOf (whole t k (changed l c (replicate Codes.SETUP-LEN 0))) ≡ after s e → (Padded p → Padded (k .progress)) → k .phase ≡ after s e .phase → Says r t o l p used e
-  plainly k c n y a m q d x h v f w =
-      says (ap (λ (z : Plan). eventOf (z .event) (z .setup) (droppedBy l (z .change))) a ∙ m)
-      (ap (λ (z : Plan). z .setup) a ∙ sym q)
-      (ap (λ (z : Plan). droppedBy l (z .change)) a ∙ d)
-      (ap (λ (z : Plan). z .consumed) a)
-      (ap (λ (z : Plan). replyBytes t (z .reply)) a ∙ x)
-      (subst (λ (z : Plan). Placed t (z .reply)) (sym a) h)
-      (ap (λ (z : Plan). z .body) a, ap (λ (z : Plan). z .from) a, ap (λ (z : Plan). z .to) a)
-      (ap (λ (z : Plan). viewOf (leaves t l z)) a ∙ v)
-      (λ g. subst (λ (z : Plan). Padded (z .link .progress)) (sym a) (f g))
-      (ap (λ (z : Plan). z .link .phase) a ∙ w)
+-- ## The list stays as it is
 
-  -- and then no message is in progress
-  pub plainly-rests : (k : Link) (c : Change) (n : Case) (y : Reply) (phase devid : ℕ) (d : Counts) → r ≡ plain k c n used y → k ≡ resting phase devid d → phase ≡ after s e .phase
-      → eventOf n (replicate Codes.SETUP-LEN 0) (droppedBy l c) ≡ e → setupBeside e ≡ replicate Codes.SETUP-LEN 0 → droppedBy l c ≡ droppedBeside e
-      → replyBytes t y ≡ replyTo s e → Placed t y → viewOf (whole t (resting phase devid d) (changed l c (replicate Codes.SETUP-LEN 0))) ≡ after s e → Says r t o l p used e
-  plainly-rests k c n y phase devid d a g w m q b x h v =
-      plainly k c n y a m q b x h (ap (λ (z : Link). viewOf (whole t z (changed l c (replicate Codes.SETUP-LEN 0)))) g ∙ v) (λ _. rest-padded k phase devid d g) (ap (λ (z : Link). z .phase) g ∙ w)
+pub keep-clean : (l : Pending) → Clean l → Clean (changed l (keeps (l .count)))
+keep-clean l h = rw (keep-is l (h .0)) h
 
--- ## What is pending
+-- behind a list that fits nothing is looked at
+keep-view : (l : Pending) → l .count ≤ Limits.MAX-PENDING → listOf (changed l (keeps (l .count))) ≡ listOf l
+unfolding changed
+keep-view l h = at (ltb 0 (length (l .urbs)))
+  where
+    at : (b : Bool) → take (l .count) (set (cond b (paste (l .urbs) 0 (drop 1 (l .urbs)) 0) (l .urbs)) Limits.MAX-PENDING blank) ≡ take (l .count) (l .urbs)
+    at true = take-set-le (l .count) (l .urbs) Limits.MAX-PENDING blank h
+    at false = take-set-le (l .count) (l .urbs) Limits.MAX-PENDING blank h
 
-pub pending-length : (p : Pending) → length (p .urbs) ≡ MAX-PENDING → p .count ≤ MAX-PENDING → length (tickets (listOf p)) ≡ p .count
-pending-length p w h = length-map (listOf p) ticketOf ∙ view-length p w h
+pub kept : (t : Table) (k : Link) (l : Pending) → l .count ≤ Limits.MAX-PENDING
+    → viewOfParts (whole t k (changed l (keeps (l .count)))) ≡ viewOfParts (whole t k l)
+kept t k l h = rw (keep-view l h, changed-count l (keeps (l .count)))
 
--- all of it dropped
-pub drops-all : (s : Parts) (p : Progress) (k : Link) → length (s .pending .urbs) ≡ MAX-PENDING → s .pending .count ≤ MAX-PENDING
-    → k ≡ resting Limits.CLOSED (s .link .devid) (record { accepted = s .link .counts .accepted; returned = s .link .counts .returned; unlinked = s .link .counts .unlinked; dropped = s .link .counts .dropped + s .pending .count })
-    → viewOf (whole (s .table) k emptyPending) ≡ between (act (during s p) (drop-all (tickets (listOf (s .pending)))))
-drops-all s p k w h q =
-    ap (λ (z : Link). viewOf (whole (s .table) z emptyPending)) q ∙ view-shut (s .table) (s .link .devid) _ emptyPending ∙ rw (pending-length (s .pending) w h)
+-- ## A message goes on
 
--- ## An import
+pub hungry-says : (t : Table) (k : Link) (l : Pending) (p : Progress) (consumed : ℕ) → countsFit (k .counts) (l .count) ≡ true
+    → progressFits (k .phase) p ≡ true → Says [] (hungryPlan k (l .count) p consumed) t k l (messageOf p) consumed hungry
+unfolding replyTo
+hungry-says t k l p consumed c f =
+    let next = linkWithProgress p k in
+    says t k l (messageOf p) hungry next (keeps (l .count)) _ consumed _ noSetup [] refl refl refl refl
+    (kept t next l (counts-known (k .counts) (l .count) c .0) ∙ view-fit (whole t next l) c f)
+    refl (keep-clean l)
 
-module _ (s : Parts) (p : Progress) where
-  pub looks-up : (head busid : List ℕ) (found : Found) → busidOf (take (p .filled) (p .head)) ≡ busidOf head → busid ≡ busidOf head → found ≡ findIn (s .table) busid → lookedUp (during s p) ≡ found
-  unfolding lookedUp
-  looks-up head busid found h b f = ap (findIn (s .table)) (h ∙ sym b) ∙ sym f
+-- ## All is dropped
 
-  module _ (i : ℕ) (d : Device) (f : lookedUp (during s p) ≡ FoundAt i) (g : d ≡ getD (devicesOf (s .table)) i noDevice) where
-    pub attaches : countsFit (s .link .counts) (s .pending .count) ≡ true
-        → viewOf (whole (s .table) (resting Limits.ATTACHED (d .busnum * 65536 + d .devnum) (s .link .counts)) (s .pending)) ≡ after (during s p) (Event.import 0)
-    unfolding pick
-    attaches h = view-attached (s .table) _ (s .link .counts) (s .pending) h ∙ rw (f, g)
+-- the tickets of all that is pending, as the code lists them
+module _ (l : Pending) where
+  taken : take (l .count) (listOf l) ≡ listOf l
+  taken = take-take (l .count) (l .count) (l .urbs) (omega arith)
 
--- ## A message of an attached session
+  pub all-dropped : ticketsDropped l (clears (l .count)) ≡ ticketsOf (tickets (listOf l))
+  all-dropped = rw (taken, length-map (listOf l) ticketOf)
 
-module _ (s : Parts) (p : Progress) (h : Attached s) where
-  -- nothing but the message in progress changes
-  pub rests : viewOf (whole (s .table) (resting Limits.ATTACHED (s .link .devid) (s .link .counts)) (s .pending)) ≡ between (during s p)
-  rests = view-attached (s .table) (s .link .devid) (s .link .counts) (s .pending) (h .0) ∙ rw (h .1)
+  pub all-listed : let ts = ticketsDropped l (clears (l .count)) in take (ts .count) (ts .tickets) ≡ tickets (listOf l)
+  all-listed = rw taken (tickets-view (listOf l))
 
-  pub answer-bytes : (u : Submit) (st : ℕ) → u ≡ submitOf (take (p .filled) (p .head))
-      → replyTo (during s p) (Event.answer (u .seqnum) st) ≡ retSubmit (record { seqnum = u .seqnum; status = st; actual = 0; frame = u .frame; packets = u .packets })
+pub clear-clean : (l : Pending) → Clean l → Clean (changed l (clears (l .count)))
+clear-clean l h = (changed-whole l (clears (l .count)) (h .0), clear-sound l (l .count) (h .0) (h .1) (omega arith))
+
+pub drops-all : (t : Table) (k : Link) (l : Pending) (m : Message) → countsFit (k .counts) (l .count) ≡ true → Whole l
+    → k .counts .accepted ≤ Limits.LAST-TICKET
+    → viewOfParts (whole t (endedLink k (l .count)) (changed l (clears (l .count)))) ≡ between (drops (during (whole t k l) m))
+drops-all t k l m c w b =
+    let known = counts-known (k .counts) (l .count) c in
+    let d = plus-fits (k .counts .dropped) (l .count) (k .counts .accepted) b (omega (arith, known .1)) in
+    view-shut t (k .devid) _ (changed l (clears (l .count))) ∙ rw (clear-view l (l .count), d, view-length l w (known .0))
+
+pub broken-says : (t : Table) (k : Link) (l : Pending) (m : Message) (f : Fault) (consumed : ℕ) → countsFit (k .counts) (l .count) ≡ true → Whole l
+    → k .counts .accepted ≤ Limits.LAST-TICKET → Says [] (brokenPlan k (l .count) f consumed) t k l m consumed (breaks (during (whole t k l) m) f)
+unfolding replyTo
+broken-says t k l m f consumed c w b =
+    says t k l m (breaks (during (whole t k l) m) f) (endedLink k (l .count)) (clears (l .count)) _ consumed _ noSetup []
+    (rw (all-listed l)) refl (all-dropped l) refl
+    (drops-all t k l m c w b) refl (clear-clean l)
+
+pub broken-padded : (k : Link) (n : ℕ) (f : Fault) (consumed : ℕ) → Padded (brokenPlan k n f consumed .link .progress)
+broken-padded k n f consumed = none-padded
+
+-- ## A submit
+
+append-drops : (l : Pending) (n : ℕ) (u : Urb) → n < Limits.MAX-PENDING → ticketsDropped l (appends n u) ≡ ticketsOf []
+unfolding appends
+append-drops l n u h = rw (lt-ltb n Limits.MAX-PENDING h)
+
+-- what is accepted has room
+room-left : (h : Header) (devid n accepted : ℕ) → first (submitTests h devid n accepted) ≡ none → (n < Limits.MAX-PENDING) × (accepted < Limits.LAST-TICKET)
+room-left h devid n accepted f =
+    let c = clear (submitTests h devid n accepted) (submitRows h devid n accepted) (submit-match h devid n accepted) f in
+    (lt-of-not-le {n = Limits.MAX-PENDING} {m = n} (λ q. c .1 .1 .0 (inl q)), lt-of-not-le {n = Limits.LAST-TICKET} {m = accepted} (λ q. c .1 .1 .0 (inr q)))
+
+module _ (t : Table) (k : Link) (l : Pending) (h : Header) (body consumed : ℕ) (a : Attached (whole t k l)) (w : Whole l) where
+  fit : l .count ≤ Limits.MAX-PENDING
+  fit = counts-known (k .counts) (l .count) (a .0) .0
+
+  answered-says : (status : ℕ) → let r = answeredPlan k (l .count) h status consumed in
+      Says (replyBytes (r .reply)) r t k l (headed h body) consumed (answer (h .transfer .seqnum) status)
   unfolding replyTo
-  answer-bytes u st e =
-      subst (λ (v : Submit). retSubmit (record { seqnum = u .seqnum; status = st; actual = 0; frame = v .frame; packets = v .packets }) ≡ retSubmit (record { seqnum = u .seqnum; status = st; actual = 0; frame = u .frame; packets = u .packets })) e refl
+  answered-says status =
+      let next = resting Limits.ATTACHED (k .devid) (k .counts) in
+      says t k l (headed h body) (answer (h .transfer .seqnum) status) next (keeps (l .count)) _ consumed _ noSetup _ refl refl refl refl
+      (kept t next l fit ∙ view-attached t (k .devid) (k .counts) l (a .0) ∙ rw (a .1))
+      (sym (a .1)) (keep-clean l)
 
-  -- one more is pending
-  pub accepts : (u : Urb) (list : Pending) → length (s .pending .urbs) ≡ MAX-PENDING → s .pending .count < MAX-PENDING → list ≡ appended (s .pending) u
-      → let c = s .link .counts in
-      viewOf (whole (s .table) (resting Limits.ATTACHED (s .link .devid) (record { accepted = c .accepted + 1; returned = c .returned; unlinked = c .unlinked; dropped = c .dropped })) list)
-      ≡ after (during s p) (Event.submit u)
-  accepts u list w l e =
-      let c = s .link .counts in
-      let n : list .count ≡ s .pending .count + 1 = ap (λ (q : Pending). q .count) e ∙ append-count (s .pending) u l in
-      let k = counts-known c (s .pending .count) (h .0) in
-      view-attached (s .table) (s .link .devid) (record { accepted = c .accepted + 1; returned = c .returned; unlinked = c .unlinked; dropped = c .dropped }) list
-      (even-counts (record { accepted = c .accepted + 1; returned = c .returned; unlinked = c .unlinked; dropped = c .dropped }) (list .count) (omega arith) (omega (arith, k .1)))
-      ∙ rw (e, append-view (s .pending) u w l, add-one (c .accepted), h .1)
+  accepted-says : l .count < Limits.MAX-PENDING → k .counts .accepted < Limits.LAST-TICKET
+      → Says [] (acceptedPlan k (l .count) h consumed) t k l (headed h body) consumed (submit (urbOf (suc (k .counts .accepted)) h))
+  unfolding replyTo
+  accepted-says room b =
+      let c = k .counts in
+      let next : plus (c .accepted) 1 ≡ suc (c .accepted) = plus-fits (c .accepted) 1 Limits.LAST-TICKET (omega arith) (omega arith) ∙ add-one (c .accepted) in
+      let urb = urbOf (suc (c .accepted)) h in
+      let list = changed l (appends (l .count) urb) in
+      let n : list .count ≡ l .count + 1 = append-count l urb room in
+      let counts = oneAccepted c in
+      let even = even-counts counts (list .count) (omega arith) (omega (arith, counts-known c (l .count) (a .0) .1)) in
+      rw next
+      (says t k l (headed h body) (submit urb) (resting Limits.ATTACHED (k .devid) counts) (appends (l .count) urb) _ consumed _ (h .setup) []
+      refl refl (append-drops l (l .count) urb room) refl
+      (view-attached t (k .devid) counts list even ∙ rw (append-view l urb w room, a .1))
+      (sym (a .1))
+      (λ y. (changed-whole l (appends (l .count) urb) w, append-sound l urb w (y .1))))
 
-  -- one less
-  pub unlinks-one : (t q st : ℕ) (list : Pending) → length (s .pending .urbs) ≡ MAX-PENDING → listOf list ≡ withoutFirst t (listOf (s .pending)) → list .count + 1 ≡ length (listOf (s .pending))
-      → let c = s .link .counts in
-      viewOf (whole (s .table) (resting Limits.ATTACHED (s .link .devid) (record { accepted = c .accepted; returned = c .returned; unlinked = c .unlinked + 1; dropped = c .dropped })) list)
-      ≡ after (during s p) (Event.unlink q st (some t))
-  unlinks-one t q st list w e l =
-      let c = s .link .counts in
-      let k = counts-known c (s .pending .count) (h .0) in
-      let n = view-length (s .pending) w (k .0) in
-      view-attached (s .table) (s .link .devid) (record { accepted = c .accepted; returned = c .returned; unlinked = c .unlinked + 1; dropped = c .dropped }) list
-      (even-counts (record { accepted = c .accepted; returned = c .returned; unlinked = c .unlinked + 1; dropped = c .dropped }) (list .count) (omega (arith, k .0)) (omega (arith, k .1)))
-      ∙ rw (e, h .1, add-zero (c .returned), add-zero (c .dropped))
-
--- ## The verdict on a submit
-
-less : (a b : ℕ) → (b ≤ a → ⊥) → a < b
-less a b h = at (ltb a b) refl
+pub submitted-says : (t : Table) (k : Link) (l : Pending) (h : Header) (body consumed : ℕ) → Attached (whole t k l) → Whole l
+    → k .counts .accepted ≤ Limits.LAST-TICKET → let r = submittedPlan k (l .count) h consumed in
+    Says (replyBytes (r .reply)) r t k l (headed h body) consumed (submitted (during (whole t k l) (headed h body)) h)
+unfolding submittedPlan submitted decide
+submitted-says t k l h body consumed a w _ =
+    rw (view-length l w (counts-known (k .counts) (l .count) (a .0) .0)) (at (first tests) refl)
   where
-    at : (c : Bool) → ltb a b ≡ c → a < b
-    at true e = ltb-true a b e
-    at false e = absurd (h (ltb-false a b e))
+    tests : List (Test ℕ)
+    tests = submitTests h (k .devid) (l .count) (k .counts .accepted)
 
-module _ (s : Parts) (head : List ℕ) (n : ℕ) (u : Submit) (l : length head ≡ Codes.HEADER-LEN) (w : length (s .pending .urbs) ≡ MAX-PENDING) (h : s .pending .count ≤ MAX-PENDING) (e : u ≡ submitOf head) where
-  abbrev tests : List Test
-  tests = submitTests u (s .link .devid) (s .pending .count) (s .link .counts .accepted)
+    at : (o : Option ℕ) → first tests ≡ o → let r = decide o (λ status. answeredPlan k (l .count) h status consumed) (acceptedPlan k (l .count) h consumed) in
+        Says (replyBytes (r .reply)) r t k l (headed h body) consumed
+        (decide o (answer (h .transfer .seqnum)) (submit (urbOf (suc (k .counts .accepted)) h)))
+    at none f = let room = room-left h (k .devid) (l .count) (k .counts .accepted) f in accepted-says t k l h body consumed a w (room .0) (room .1)
+    at (some status) f = answered-says t k l h body consumed a w status
 
-  at-end : submitted (during s (headed head n)) ≡ decide (first tests) (Event.answer (u .seqnum)) (Event.submit (urbFrom (suc (s .link .counts .accepted)) u))
-  unfolding submitted urbOf
-  at-end =
-      rw (take-all Codes.HEADER-LEN head (omega arith), view-length (s .pending) w h)
-      (subst (λ (v : Submit). decide (first (submitTests v (s .link .devid) (s .pending .count) (s .link .counts .accepted))) (Event.answer (v .seqnum)) (Event.submit (urbFrom (suc (s .link .counts .accepted)) v)) ≡ decide (first tests) (Event.answer (u .seqnum)) (Event.submit (urbFrom (suc (s .link .counts .accepted)) u))) e refl)
+pub submitted-padded : (k : Link) (n : ℕ) (h : Header) (consumed : ℕ) → Padded (submittedPlan k n h consumed .link .progress)
+unfolding submittedPlan
+submitted-padded k n h consumed =
+    by-first (λ (r : Plan). Padded (r .link .progress)) (first (submitTests h (k .devid) n (k .counts .accepted))) (λ _ _. none-padded) (λ _. none-padded)
 
-  pub submit-bad : (st : ℕ) → first tests ≡ some st → submitted (during s (headed head n)) ≡ Event.answer (u .seqnum) st
-  unfolding decide
-  submit-bad st f = at-end ∙ rw f
+-- ## An unlink
 
-  pub submit-good : first tests ≡ none → submitted (during s (headed head n)) ≡ Event.submit (urbFrom (suc (s .link .counts .accepted)) u)
-  unfolding decide
-  submit-good f = at-end ∙ rw f
+pub remove-clean : (l : Pending) (i : ℕ) → Clean l → Clean (changed l (removes (l .count) i))
+remove-clean l i h = (changed-whole l (removes (l .count) i) (h .0), remove-sound l i (h .0) (h .1))
 
-pub room-left : (u : Submit) (devid pending accepted : ℕ) → first (submitTests u devid pending accepted) ≡ none → (pending < MAX-PENDING) × (accepted < Limits.LAST-TICKET)
-room-left u devid pending accepted f =
-    let k = clear (submitTests u devid pending accepted) (submitRows u devid pending accepted) (submit-match u devid pending accepted) f in
-    (less pending MAX-PENDING (λ q. k .1 .1 .0 (inl q)), less accepted Limits.LAST-TICKET (λ q. k .1 .1 .0 (inr q)))
+remove-drops : (l : Pending) (n i : ℕ) → i < n → n ≤ Limits.MAX-PENDING → ticketsDropped l (removes n i) ≡ ticketsOf []
+unfolding removes
+remove-drops l n i h m = rw (lt-ltb i n h, le-leb n Limits.MAX-PENDING m)
 
--- ## What an unlink finds
+module _ (t : Table) (k : Link) (l : Pending) (h : Header) (consumed : ℕ) (a : Attached (whole t k l)) (w : Whole l) where
+  missed-says : let r = missedPlan k (l .count) h consumed in
+      Says (replyBytes (r .reply)) r t k l (headed h 0) consumed (unlink (h .transfer .seqnum) 0 none)
+  unfolding replyTo
+  missed-says =
+      let next = resting Limits.ATTACHED (k .devid) (k .counts) in
+      says t k l (headed h 0) (unlink (h .transfer .seqnum) 0 none) next (keeps (l .count)) _ consumed _ noSetup _ refl refl refl refl
+      (kept t next l (counts-known (k .counts) (l .count) (a .0) .0) ∙ view-attached t (k .devid) (k .counts) l (a .0) ∙ rw (a .1))
+      (sym (a .1)) (keep-clean l)
 
-module _ (head : List ℕ) (u : Unlink) (list : Pending) (e : u ≡ unlinkOf head) where
-  abbrev Finds : Unlink → Event → Type 0
-  Finds v event = unlinks (v .seqnum) (findBy seqnumOf (v .target) (listOf list)) ≡ event
+  removed-says : (look : Look) → placeBy seqnumOf (unlinkSeqnum h) (listOf l) ≡ At (look .place) → look .place < length (listOf l)
+      → k .counts .accepted ≤ Limits.LAST-TICKET → let r = removedPlan k (l .count) h look consumed in
+      Says (replyBytes (r .reply)) r t k l (headed h 0) consumed (unlink (h .transfer .seqnum) (minus Codes.ECONNRESET) (some (look .ticket)))
+  unfolding replyTo
+  removed-says look e inside b =
+      let c = k .counts in
+      let c′ = counts-known c (l .count) (a .0) in
+      let i : look .place < l .count = omega (arith, view-length l w (c′ .0)) in
+      let next = plus-fits (c .unlinked) 1 (c .accepted) b (omega (arith, c′ .1)) in
+      let list = changed l (removes (l .count) (look .place)) in
+      let n : list .count + 1 ≡ l .count = remove-count l (look .place) w i (c′ .0) in
+      let counts = State.ended unlinked 1 c in
+      let even = even-counts counts (list .count) (omega (arith, c′ .0)) (omega (arith, c′ .1)) in
+      rw next
+      (says t k l (headed h 0) (unlink (h .transfer .seqnum) (minus Codes.ECONNRESET) (some (look .ticket)))
+      (resting Limits.ATTACHED (k .devid) counts) (removes (l .count) (look .place)) _ consumed _ noSetup _
+      refl refl (remove-drops l (l .count) (look .place) i (c′ .0)) refl
+      (view-attached t (k .devid) counts list even ∙ rw (remove-view l (look .place) w seqnumOf (unlinkSeqnum h) (c′ .0) e, a .1))
+      (sym (a .1))
+      (remove-clean l (look .place)))
 
-  pub unlinks-found : (i : ℕ) (urb : Urb) → placeBy seqnumOf (u .target) (listOf list) ≡ At i → urb ≡ urbAt list i
-      → Finds (unlinkOf head) (Event.unlink (u .seqnum) (minus Codes.ECONNRESET) (some (ticketOf urb)))
-  unlinks-found i urb p q = subst (λ (v : Unlink). Finds v (Event.unlink (u .seqnum) (minus Codes.ECONNRESET) (some (ticketOf urb)))) e (rw (place-at seqnumOf (u .target) list i p, q))
-
-  pub unlinks-none : placeBy seqnumOf (u .target) (listOf list) ≡ Nothing → Finds (unlinkOf head) (Event.unlink (u .seqnum) 0 none)
-  unlinks-none p = subst (λ (v : Unlink). Finds v (Event.unlink (u .seqnum) 0 none)) e (rw (place-none seqnumOf (u .target) (listOf list) .0 p))
-
--- where the one that was found stands, by its ticket
-pub found-place : (list : Pending) (k i : ℕ) (urb : Urb) (at : ℕ) → placeBy seqnumOf k (listOf list) ≡ At i → urb ≡ urbAt list i → ((j : ℕ) → placeBy ticketOf (ticketOf urb) (listOf list) ≡ At j → at ≡ j)
-    → placeBy ticketOf (ticketOf urb) (listOf list) ≡ At at
-found-place list k i urb at p q f = by-place (placeBy ticketOf (ticketOf urb) (listOf list)) refl
+pub unlinked-says : (t : Table) (k : Link) (l : Pending) (h : Header) (consumed : ℕ) → Attached (whole t k l) → Whole l
+    → k .counts .accepted ≤ Limits.LAST-TICKET → let look = lookBy seqnumOf (unlinkSeqnum h) (listOf l) in
+    let r = unlinkedPlan k (l .count) h look consumed in
+    Says (replyBytes (r .reply)) r t k l (headed h 0) consumed (unlinks (h .transfer .seqnum) (findBy seqnumOf (unlinkSeqnum h) (listOf l)))
+unlinked-says t k l h consumed a w b = at (findBy seqnumOf q (listOf l)) refl
   where
-    held : (v : Urb) × (findBy ticketOf (ticketOf urb) (listOf list) ≡ some v)
-    held = rw q (mem-found ticketOf (listOf list) (urbAt list i) (find-some seqnumOf k (listOf list) (urbAt list i) (place-at seqnumOf k list i p) .1))
+    q : ℕ
+    q = unlinkSeqnum h
 
-    by-place : (z : Place) → placeBy ticketOf (ticketOf urb) (listOf list) ≡ z → placeBy ticketOf (ticketOf urb) (listOf list) ≡ At at
-    by-place (At j) e = e ∙ ap At (sym (f j e))
-    by-place Nothing e = clash (sym (place-none ticketOf (ticketOf urb) (listOf list) .0 e) ∙ held .1)
+    look : Look
+    look = lookBy seqnumOf q (listOf l)
 
--- ## Small facts of the plans
+    at : (o : Option Urb) → findBy seqnumOf q (listOf l) ≡ o → let r = unlinkedPlan k (l .count) h look consumed in
+        Says (replyBytes (r .reply)) r t k l (headed h 0) consumed (unlinks (h .transfer .seqnum) o)
+    at none e = rw (look-none seqnumOf q (listOf l) e) (missed-says t k l h consumed a w)
+    at (some u) e =
+        let f = look-some seqnumOf q (listOf l) u e in
+        let p = look-place seqnumOf q (listOf l) (f .0) in
+        rw (f .0, ← f .1) (removed-says t k l h consumed a w look (p .0) (p .1) b)
 
-pub listed-tickets : (us : List Urb) → listing us ≡ ticketsOf (tickets us)
-listed-tickets us = rw (length-map us ticketOf)
+pub unlinked-padded : (k : Link) (n : ℕ) (h : Header) (look : Look) (consumed : ℕ) → Padded (unlinkedPlan k n h look consumed .link .progress)
+unlinked-padded k n h look consumed = at (look .found)
+  where
+    at : (b : Bool) → Padded (cond b (removedPlan k n h look consumed) (missedPlan k n h consumed) .link .progress)
+    at true = none-padded
+    at false = none-padded
 
-pub tests-for : (u : Submit) (devid n m accepted : ℕ) {o : Option ℕ} → n ≡ m → first (submitTests u devid n accepted) ≡ o → first (submitTests u devid m accepted) ≡ o
-tests-for u devid n m accepted e f = ap (λ (k : ℕ). first (submitTests u devid k accepted)) (sym e) ∙ f
+-- ## A request
 
-pub same-place : {i j : ℕ} → At i ≡ At j → j ≡ i
-same-place h = cc
+-- a phase begins, and the list stays as it is
+module _ (t : Table) (k : Link) (l : Pending) (m : Message) (consumed : ℕ) (c : countsFit (k .counts) (l .count) ≡ true) where
+  rest-view : (phase devid : ℕ)
+      → let next = resting phase devid (k .counts) in viewOfParts (whole t next (changed l (keeps (l .count)))) ≡ viewOfParts (whole t next l)
+  rest-view phase devid = kept t (resting phase devid (k .counts)) l (counts-known (k .counts) (l .count) c .0)
 
-pub no-place : {A : Type 0} {i : ℕ} → At i ≡ Nothing → A
-no-place {i = i} h = absurd (let z : _≡_ {A = ℕ} 0 1 = cc in omega arith)
+  pub list-says : let r = listPlan k (l .count) consumed in Says (requestBytes t (r .reply)) (r .plan) t k l m consumed list
+  unfolding replyTo
+  list-says =
+      says t k l m list (resting Limits.CLOSED (k .devid) (k .counts)) (keeps (l .count)) _ consumed _ noSetup _ refl refl refl refl
+      (rest-view Limits.CLOSED (k .devid) ∙ view-shut t (k .devid) (k .counts) l)
+      refl (keep-clean l)
+
+  pub unknown-says : lookedUp (during (whole t k l) m) ≡ Nothing → let r = unknownPlan k (l .count) consumed in
+      Says (requestBytes t (r .reply)) (r .plan) t k l m consumed (import 1)
+  unfolding replyTo pick
+  unknown-says f =
+      says t k l m (import 1) (resting Limits.CLOSED (k .devid) (k .counts)) (keeps (l .count)) _ consumed _ noSetup _ refl refl refl (rw f)
+      (rest-view Limits.CLOSED (k .devid) ∙ view-shut t (k .devid) (k .counts) l)
+      refl (keep-clean l)
+
+-- the device that is found stands at its place in the array
+found-device : (t : Table) (s : Sess) (i : ℕ) → s .table ≡ t → length (t .devices) ≡ Limits.MAX-DEVICES → lookedUp s ≡ FoundAt i
+    → deviceIn t i ≡ getD (devicesOf t) i noDevice
+unfolding lookedUp
+found-device t s i e w f =
+    let busid = busidOf (bytesIn (s .link .message)) in
+    let inside = find-first t busid .0 i .0 (rw e at f) .inside in
+    let n = length-take (t .count) (t .devices) in
+    rw (lt-ltb i Limits.MAX-DEVICES (omega arith)) (sym (getD-take (t .count) (t .devices) i noDevice (omega arith)))
+
+pub import-says : (t : Table) (k : Link) (l : Pending) (m : Message) (i consumed : ℕ) → countsFit (k .counts) (l .count) ≡ true
+    → lookedUp (during (whole t k l) m) ≡ FoundAt i → length (t .devices) ≡ Limits.MAX-DEVICES → let r = importPlan k (l .count) i (devidIn t i) consumed in
+    Says (requestBytes t (r .reply)) (r .plan) t k l m consumed (import 0)
+unfolding replyTo pick
+import-says t k l m i consumed c f w =
+    let d = found-device t (during (whole t k l) m) i refl w f in
+    says t k l m (import 0) (resting Limits.ATTACHED (devidIn t i) (k .counts)) (keeps (l .count)) _ consumed _ noSetup _ refl refl refl (rw (f, d))
+    (rest-view t k l m consumed c Limits.ATTACHED (devidIn t i) ∙ view-attached t (devidIn t i) (k .counts) l c ∙ rw (f, d))
+    refl (keep-clean l)
+
+pub list-padded : (k : Link) (n consumed : ℕ) → Padded (listPlan k n consumed .plan .link .progress)
+list-padded k n consumed = none-padded
+
+pub unknown-padded : (k : Link) (n consumed : ℕ) → Padded (unknownPlan k n consumed .plan .link .progress)
+unknown-padded k n consumed = none-padded
+
+pub import-padded : (k : Link) (n place devid consumed : ℕ) → Padded (importPlan k n place devid consumed .plan .link .progress)
+import-padded k n place devid consumed = none-padded

@@ -1,110 +1,198 @@
--- A plan: what it comes to when it is carried out, and what it says in a session.
-use Prim.Native.Nat.{ℕ, _-_, _<_}
-use mathlib.Core.Path.{_≡_}
+-- The plan of each event of a feed, and what a plan comes to when it is carried out.
+use Prim.Native.Nat.{ℕ, _-_}
+use mathlib.Core.Bool.{cond}
 use mathlib.Core.List.{List, []}
-use lib.ListN.{length, take, drop, getD, replicate}
+use lib.ListN.{length, take, drop}
 use lib.Seq.{sets}
 use Rattle.wire.specs.Codes
-use Rattle.wire.specs.Writing.{over}
+use Rattle.wire.specs.Status.{minus}
+use Rattle.ground.specs.Writing.{over}
 use Rattle.messages.specs.Messages.{retSubmit, retUnlink}
-use Rattle.exports.specs.Devices.{noDevice, devicesOf}
+use Rattle.messages.specs.declared.message.Header.{Header}
 use Rattle.exports.specs.declared.device.Table.{Table}
+use Rattle.lookup.specs.Lookup.{deviceIn}
 use Rattle.importing.specs.Imports.{importReply, importRefusal}
 use Rattle.listing.specs.Lists.{listReply}
-use Rattle.pending.specs.Pending.{listOf, emptyPending, listing, appended, removed}
+use Rattle.pending.specs.Changes.{changed, keeps, appends, removes, clears}
+use Rattle.pending.specs.Pending.{listOf, listing}
+use Rattle.pending.specs.declared.change.Change.{Change}
+use Rattle.pending.specs.declared.counts.Counts.{Counts}
 use Rattle.pending.specs.declared.list.Pending.{Pending}
 use Rattle.pending.specs.declared.list.Tickets.{Tickets}
-use Rattle.model.specs.Model.{Sess, Event, Buffers, tell, after, replyTo}
+use Rattle.pending.specs.declared.look.Look.{Look}
+use Rattle.limits.specs.Limits
+use Rattle.ground.specs.Tests.{first, decide}
+use Rattle.verdicts.specs.Verdicts.{submitTests}
+use Rattle.verdicts.specs.declared.verdict.Fault.{Fault}
+use Rattle.model.specs.State.{Sess}
+use Rattle.model.specs.Answers.{Outcome, Event}
+use Rattle.model.specs.Judging.{urbOf}
+use Rattle.model.specs.Acts.{Buffers}
 use Rattle.model.specs.Cut.{lent}
-use Rattle.links.specs.Links.{Parts, during, whole, viewOf, Clean, Padded, Tidy}
-use Rattle.events.specs.Answers.{eventOf, setupBeside, ticketsOf, droppedBeside}
+use Rattle.links.specs.Links.{Parts, whole, viewOfParts, linkWithProgress, resting, plus, endedLink}
+use Rattle.links.specs.declared.link.Link.{Link}
+use Rattle.links.specs.declared.link.Progress.{Progress}
+use Rattle.events.specs.Answers.{eventOf, noSetup}
 use Rattle.events.specs.declared.answer.Event.{Event as Case}
-use Rattle.links.specs.declared.Link.{Link}
-use Rattle.links.specs.declared.Progress.{Progress}
-use Rattle.events.specs.declared.plan.Change.{Change}
-use Rattle.events.specs.declared.plan.Change.the-variants.{Keep, Append, Remove, Clear}
-use Rattle.events.specs.declared.plan.Reply.{Reply}
-use Rattle.events.specs.declared.plan.Reply.the-variants.{Silent, Devices, Device, NoDevice, Returned, Cancelled}
+use Rattle.events.specs.declared.answer.Event.the-variants.{Hungry, List as Listed, Import, Submit, Answer, Unlink, Break, Refused}
+use Rattle.events.specs.declared.answer.Removed.the-variants.{Ticket, Nothing}
 use Rattle.events.specs.declared.plan.Plan.{Plan}
+use Rattle.events.specs.declared.plan.Reply.{Reply}
+use Rattle.events.specs.declared.plan.Reply.the-variants.{Silent, Submit as RetSubmits, Unlink as RetUnlinks}
+use Rattle.events.specs.declared.plan.RequestPlan.{RequestPlan}
+use Rattle.events.specs.declared.plan.RequestReply.{RequestReply}
+use Rattle.events.specs.declared.plan.RequestReply.the-variants.{Silent as NoReply, List as ListReply, Import as ImportReply, Unknown}
 
--- All that a feed says and leaves: the event and what stands beside it, the bytes consumed, the length of the reply, both
+-- ## The plan of each event
+
+-- A plan that copies nothing, with nothing beside its event.
+abbrev pub plain : Link → Change → Case → ℕ → Reply → Plan
+plain k c e consumed reply =
+    record { link = k; change = c; event = e; consumed = consumed; reply = reply; body = 0; from = 0; to = 0; setup = noSetup }
+
+-- The same plan with setup bytes, with data of the piece.
+abbrev pub withSetup : List ℕ → Plan → Plan
+withSetup setup r =
+    record {
+      link = r .link;
+      change = r .change;
+      event = r .event;
+      consumed = r .consumed;
+      reply = r .reply;
+      body = r .body;
+      from = r .from;
+      to = r .to;
+      setup = setup;
+    }
+
+abbrev pub withData : (body from to : ℕ) → Plan → Plan
+withData body from to r =
+    record {
+      link = r .link;
+      change = r .change;
+      event = r .event;
+      consumed = r .consumed;
+      reply = r .reply;
+      body = body;
+      from = from;
+      to = to;
+      setup = r .setup;
+    }
+
+-- k: the link before; n: how many are pending; h: the header of the message.
+abbrev pub refusedPlan : Link → ℕ → ℕ → Plan
+refusedPlan k n number = plain k (keeps n) (Refused number) 0 Silent
+
+abbrev pub hungryPlan : Link → ℕ → Progress → ℕ → Plan
+hungryPlan k n p consumed = plain (linkWithProgress p k) (keeps n) Hungry consumed Silent
+
+abbrev pub brokenPlan : Link → ℕ → Fault → ℕ → Plan
+brokenPlan k n f consumed = plain (endedLink k n) (clears n) (Break f) consumed Silent
+
+abbrev pub answeredPlan : Link → ℕ → Header → ℕ → ℕ → Plan
+answeredPlan k n h status consumed =
+    let u = h .transfer in
+    plain (resting Limits.ATTACHED (k .devid) (k .counts)) (keeps n) (Answer (u .seqnum) status) consumed
+    (RetSubmits (record { seqnum = u .seqnum; status = status; actual = 0; start = u .start; packets = u .packets }))
+
+abbrev pub acceptedPlan : Link → ℕ → Header → ℕ → Plan
+acceptedPlan k n h consumed =
+    let c = k .counts in
+    let ticket = plus (c .accepted) 1 in
+    let counts : Counts = record { accepted = ticket; returned = c .returned; unlinked = c .unlinked; dropped = c .dropped } in
+    withSetup (h .setup)
+    (plain (resting Limits.ATTACHED (k .devid) counts) (appends n (urbOf ticket h)) (Submit ticket (h .transfer)) consumed Silent)
+
+unfoldable pub submittedPlan : Link → ℕ → Header → ℕ → Plan
+submittedPlan k n h consumed =
+    decide (first (submitTests h (k .devid) n (k .counts .accepted))) (λ status. answeredPlan k n h status consumed) (acceptedPlan k n h consumed)
+
+abbrev pub unlinkReply : Header → ℕ → Reply
+unlinkReply h status = RetUnlinks (record { seqnum = h .transfer .seqnum; status = status })
+
+abbrev pub removedPlan : Link → ℕ → Header → Look → ℕ → Plan
+removedPlan k n h look consumed =
+    let c = k .counts in
+    let status = minus Codes.ECONNRESET in
+    let counts : Counts = record { accepted = c .accepted; returned = c .returned; unlinked = plus (c .unlinked) 1; dropped = c .dropped } in
+    plain (resting Limits.ATTACHED (k .devid) counts) (removes n (look .place)) (Unlink (h .transfer .seqnum) status (Ticket (look .ticket))) consumed
+    (unlinkReply h status)
+
+abbrev pub missedPlan : Link → ℕ → Header → ℕ → Plan
+missedPlan k n h consumed =
+    plain (resting Limits.ATTACHED (k .devid) (k .counts)) (keeps n) (Unlink (h .transfer .seqnum) 0 Nothing) consumed (unlinkReply h 0)
+
+abbrev pub unlinkedPlan : Link → ℕ → Header → Look → ℕ → Plan
+unlinkedPlan k n h look consumed = cond (look .found) (removedPlan k n h look consumed) (missedPlan k n h consumed)
+
+-- ## The plan of each event of a request
+
+abbrev pub restPlan : Link → ℕ → (phase devid : ℕ) → Case → ℕ → Plan
+restPlan k n phase devid e consumed = plain (resting phase devid (k .counts)) (keeps n) e consumed Silent
+
+abbrev pub silentPlan : Plan → RequestPlan
+silentPlan r = record { plan = r; reply = NoReply }
+
+abbrev pub listPlan : Link → ℕ → ℕ → RequestPlan
+listPlan k n consumed = record { plan = restPlan k n Limits.CLOSED (k .devid) Listed consumed; reply = ListReply }
+
+abbrev pub unknownPlan : Link → ℕ → ℕ → RequestPlan
+unknownPlan k n consumed = record { plan = restPlan k n Limits.CLOSED (k .devid) (Import 1) consumed; reply = Unknown }
+
+abbrev pub importPlan : Link → ℕ → (place devid : ℕ) → ℕ → RequestPlan
+importPlan k n place devid consumed = record { plan = restPlan k n Limits.ATTACHED devid (Import 0) consumed; reply = ImportReply place }
+
+-- ## A plan, carried out
+
+-- All that a feed answers and leaves: the event and what stands beside it, the bytes consumed, the length of the reply, both
 -- buffers, the next session.
-pub record Said : Type 0 where
-  pub event : Event
+pub record Result : Type 0 where
+  pub event : Outcome Event
   pub setup : List ℕ
   pub dropped : Tickets
-  pub used : ℕ
-  pub written : ℕ
+  pub consumed : ℕ
+  pub length : ℕ
   pub buffers : Buffers
   pub next : Sess
 
--- An event is said when the bytes of a session are in.
-unfoldable pub told : Sess → Buffers → ℕ → Event → Said
-told s b used e =
-    record { event = e; setup = setupBeside e; dropped = droppedBeside e; used = used; written = length (replyTo s e); buffers = tell s e b; next = after s e }
+-- The bytes of a reply to a message, and to a request.
+abbrev pub replyBytes : Reply → List ℕ
+replyBytes Silent = []
+replyBytes (RetSubmits r) = retSubmit r
+replyBytes (RetUnlinks r) = retUnlink r
 
--- The bytes of a reply.
-abbrev pub replyBytes : Table → Reply → List ℕ
-replyBytes t Silent = []
-replyBytes t Devices = listReply t
-replyBytes t (Device i) = importReply (getD (devicesOf t) i noDevice)
-replyBytes t NoDevice = importRefusal
-replyBytes t (Returned r) = retSubmit r
-replyBytes t (Cancelled r) = retUnlink r
+abbrev pub requestBytes : Table → RequestReply → List ℕ
+requestBytes t NoReply = []
+requestBytes t ListReply = listReply t
+requestBytes t (ImportReply i) = importReply (deviceIn t i)
+requestBytes t Unknown = importRefusal
 
--- The pending list after a change; the setup bytes are those of a URB that is added.
-abbrev pub changed : Pending → Change → List ℕ → Pending
-changed l Keep setup = l
-changed l (Append u) setup = appended l (record { transfer = u; setup = setup })
-changed l (Remove i) setup = removed l i
-changed l Clear setup = emptyPending
+-- The parts of the session that a plan leaves, and the tickets that a change drops.
+abbrev pub partsAfter : Table → Pending → Plan → Parts
+partsAfter t l r = whole t (r .link) (changed l (r .change))
 
--- The tickets that a change drops.
-abbrev pub droppedBy : Pending → Change → Tickets
-droppedBy l Keep = ticketsOf []
-droppedBy l (Append u) = ticketsOf []
-droppedBy l (Remove i) = ticketsOf []
-droppedBy l Clear = listing (listOf l)
-
--- The parts of the session that a plan leaves.
-abbrev pub leaves : Table → Pending → Plan → Parts
-leaves t l r = whole t (r .link) (changed l (r .change) (r .setup))
+abbrev pub ticketsDropped : Pending → Change → Tickets
+ticketsDropped l c = listing (take (c .dropped) (listOf l))
 
 -- The bytes of the piece that go to the work buffer.
 abbrev pub dataOf : Plan → List ℕ → List ℕ
 dataOf r piece = take (r .to - r .from) (drop (r .from) piece)
 
--- A plan, carried out.
-abbrev pub carried : Table → Pending → Plan → List ℕ → Buffers → Said
-carried t l r piece b =
+-- With these bytes as its reply.
+abbrev pub carriedWith : List ℕ → Table → Pending → Plan → List ℕ → Buffers → Result
+carriedWith bytes t l r piece b =
     record {
-      event = eventOf (r .event) (r .setup) (droppedBy l (r .change));
+      event = eventOf (r .event) (r .setup) (ticketsDropped l (r .change));
       setup = r .setup;
-      dropped = droppedBy l (r .change);
-      used = r .consumed;
-      written = length (replyBytes t (r .reply));
-      buffers = lent (sets (b .work) (r .body) (dataOf r piece)) (over (replyBytes t (r .reply)) (b .reply));
-      next = viewOf (leaves t l r);
+      dropped = ticketsDropped l (r .change);
+      consumed = r .consumed;
+      length = length bytes;
+      buffers = lent (sets (b .work) (r .body) (dataOf r piece)) (over bytes (b .reply));
+      next = viewOfParts (partsAfter t l r);
     }
 
--- A plan that says an event, and nothing of the piece goes to the work buffer.
-abbrev pub plain : Link → Change → Case → ℕ → Reply → Plan
-plain k c e used reply =
-    record { link = k; change = c; event = e; consumed = used; reply = reply; body = 0; from = 0; to = 0; setup = replicate Codes.SETUP-LEN 0 }
+abbrev pub carried : Table → Pending → Plan → List ℕ → Buffers → Result
+carried t l r piece b = carriedWith (replyBytes (r .reply)) t l r piece b
 
--- The device of a reply is one of the table's.
-abbrev pub Placed : Table → Reply → Type 0
-Placed t Silent = Unit {0}
-Placed t Devices = Unit {0}
-Placed t (Device i) = i < length (devicesOf t)
-Placed t NoDevice = Unit {0}
-Placed t (Returned r) = Unit {0}
-Placed t (Cancelled r) = Unit {0}
-
--- What a plan says in a session with this message in progress, whatever the piece and the buffers are; it copies nothing, and
--- what it leaves is tidy if the list and the message are.
-pub record Says (r : Plan) (t : Table) (k : Link) (l : Pending) (p : Progress) (used : ℕ) (e : Event) : Type 0 where
-  pub placed : Placed t (r .reply)
-  pub copies : (r .body ≡ 0) × (r .from ≡ 0) × (r .to ≡ 0)
-  pub told : (piece : List ℕ) (b : Buffers) → carried t l r piece b ≡ told (during (whole t k l) p) b used e
-  pub tidy : Clean l → Padded p → Tidy (leaves t l r)
+abbrev pub carriedRequest : Table → Pending → RequestPlan → List ℕ → Buffers → Result
+carriedRequest t l r piece b = carriedWith (requestBytes t (r .reply)) t l (r .plan) piece b

@@ -1,7 +1,7 @@
 // What the acts of a session answer. Numbers go inside an event, arrays beside it. What each case stands for is `eventOf` and its
 // like in specs/Answers.antt.
-use pending::list::Tickets;
-use pending::urb::Transfer;
+use messages::message::Transfer;
+use verdicts::verdict::Fault;
 use wire::codes::SETUP_LEN;
 
 pub enum Opening {
@@ -15,28 +15,27 @@ pub enum Removed {
     Nothing,
 }
 
-// Hungry is 01's word for a feed that ends within a message. An import has its status; an accepted submit its record (the
-// setup bytes stand beside); an answer to a refused submit its seqnum and status; an unlink its own seqnum, its status and the
-// ticket removed. A break is 01's word for a fault in the stream, which ends the session; it and a refusal have their number.
+// Hungry is the rules' word for a feed that ends within a message. An import has its status; an accepted submit its ticket and
+// its transfer (the setup bytes stand beside); an answer to a refused submit its seqnum and status; an unlink its own seqnum, its
+// status and the ticket removed. A break is the rules' word for a fault in the stream, which ends the session. A refusal has its
+// number.
 pub enum Event {
     Hungry,
     List,
     Import(u32),
-    Submit(Transfer),
+    Submit(u64, Transfer),
     Answer(u32, u32),
     Unlink(u32, u32, Removed),
-    Break(u32),
+    Break(Fault),
     Refused(u32),
 }
 
-// A feed's answer: the event, the bytes consumed of the piece, the length of the reply; an accepted submit's setup bytes; a break's
-// tickets.
+// A feed's answer: the event, the bytes consumed of the piece, the length of the reply; an accepted submit's setup bytes.
 pub struct Answer {
     pub event: Event,
     pub consumed: usize,
     pub length: usize,
     pub setup: [u8; SETUP_LEN],
-    pub dropped: Tickets,
 }
 
 // A completion is accepted, with the length of the reply on the wire, or refused.
@@ -48,13 +47,4 @@ pub enum Completion {
 pub enum Closing {
     End,
     Refused(u32),
-}
-
-// How many URBs were accepted, are pending, were returned, unlinked and dropped.
-pub struct Numbers {
-    pub accepted: u64,
-    pub pending: u64,
-    pub returned: u64,
-    pub unlinked: u64,
-    pub dropped: u64,
 }

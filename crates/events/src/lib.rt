@@ -1,5 +1,6 @@
-// What each event does to the link to the client: which link is next, which change of the pending list and which reply go with
-// it. All by value: what an event comes to is a plan, which `session` carries out.
+// What the acts answer, and what each event of a feed comes to: the next link, the change of the pending list, the reply. All by
+// value, and with neither the table nor the list: a plan, which `session` carries out.
 pub mod answer;
-pub mod event;
+pub mod message;
 pub mod plan;
+pub mod request;

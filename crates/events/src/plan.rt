@@ -1,29 +1,18 @@
 // A plan: what a feed will do, decided by value before anything is written.
 use crate::answer::Event;
-use links::Link;
+use links::link::Link;
 use messages::reply::RetSubmit;
 use messages::reply::RetUnlink;
-use pending::urb::Transfer;
+use pending::change::Change;
 use wire::codes::SETUP_LEN;
 ghost use mathlib.Core.Path.{_≡_};
-ghost use Rattle.events.specs.Plans;
+ghost use Rattle.events.specs.Plans.{plain, refusedPlan};
 
-// What becomes of the pending list: a URB more, the one at a place less, none left.
-pub enum Change {
-    Keep,
-    Append(Transfer),
-    Remove(usize),
-    Clear,
-}
-
-// The reply: none; the table's list; the import of the device at a place of the table, or of none; a RET_SUBMIT; a RET_UNLINK.
+// The reply to a message: none, a RET_SUBMIT, a RET_UNLINK.
 pub enum Reply {
     Silent,
-    Devices,
-    Device(usize),
-    NoDevice,
-    Returned(RetSubmit),
-    Cancelled(RetUnlink),
+    Submit(RetSubmit),
+    Unlink(RetUnlink),
 }
 
 // The next link, the change of the pending list, the event and the bytes consumed, the reply; the bytes of the piece from `from`
@@ -40,25 +29,47 @@ pub struct Plan {
     pub setup: [u8; SETUP_LEN],
 }
 
+// The reply to a request: none; the table's list; the import of the device at a place of the table, or of none.
+pub enum RequestReply {
+    Silent,
+    List,
+    Import(usize),
+    Unknown,
+}
+
+// A plan that copies nothing and has no reply of its own, with the reply to a request.
+pub struct RequestPlan {
+    pub plan: Plan,
+    pub reply: RequestReply,
+}
+
 // A plan that copies nothing, with nothing beside its event.
 pub(crate) fn plain_plan(
     link: Link,
     change: Change,
     event: Event,
-    used: usize,
+    consumed: usize,
     reply: Reply,
 ) -> Plan
-    ensures { λ r. ⌜ r ≡ Plans.plain link change event used reply ⌝ }
+    ensures { λ r. ⌜ r ≡ plain link change event consumed reply ⌝ }
 {
     Plan {
         link: link,
         change: change,
         event: event,
-        consumed: used,
+        consumed: consumed,
         reply: reply,
         body: 0,
         from: 0,
         to: 0,
         setup: [0u8; SETUP_LEN],
     }
+}
+
+// The feed is refused, with so many URBs pending, and nothing changes.
+pub fn plan_refused(link: Link, pending: usize, number: u32) -> Plan
+    ensures { λ r. ⌜ r ≡ refusedPlan link pending number ⌝ }
+{
+    let change = Change::keep(pending);
+    plain_plan(link, change, Event::Refused(number), 0, Reply::Silent)
 }

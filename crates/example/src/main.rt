@@ -1,18 +1,18 @@
 // A worked call of each act: the story of the late picture, told through the API. The client's stream comes on standard input: an
 // import request, a submit of sequence number 7, its unlink, and a submit of number 7 again.
-use events::answer::Completion;
-use events::answer::Event;
-use events::answer::Removed;
 use libc::STDIN_FILENO;
 use libc::STDOUT_FILENO;
-use session::state::Session;
+use rimemaple::BUSID_LEN;
+use rimemaple::Completion;
+use rimemaple::Event;
+use rimemaple::HEADER_LEN;
+use rimemaple::OP_LEN;
+use rimemaple::REPLY_LEN;
+use rimemaple::Removed;
+use rimemaple::Session;
+use rimemaple::WORK_LEN;
+use rimemaple::part;
 use tape::table::tape_table;
-use transmit::part;
-use verdicts::limits::REPLY_LEN;
-use verdicts::limits::WORK_LEN;
-use wire::codes::BUSID_LEN;
-use wire::codes::HEADER_LEN;
-use wire::codes::OP_LEN;
 
 // The bytes of a picture, and how many of a reply the socket takes at once.
 const PICTURE_LEN: usize = 64;
@@ -40,9 +40,9 @@ fn feed(s: Session, piece: &[u8], work: &mut [u8], reply: &mut [u8]) -> Session 
     let event = answer.event;
     say(b"bytes to the client: ", answer.length as u64);
     match event {
-        Event::Submit(urb) => say(b"the device starts ticket ", urb.ticket),
+        Event::Submit(ticket, _) => say(b"the device starts ticket ", ticket),
         Event::Unlink(_, _, removed) => cancel(removed),
-        Event::Break(number) => say(b"the session broke with ", number as u64),
+        Event::Break(fault) => say(b"the session broke with ", fault.number as u64),
         _ => (),
     }
     fed.session

@@ -1,89 +1,88 @@
--- The known exchanges of 01 that are marked with a star: what is done, and what must be seen, bytes written out.
-use Prim.Native.Nat.{ℕ, zero, suc, _+_, _-_}
+-- The known exchanges of the rules that are marked with a star: what is done, and what must be seen, bytes written out.
+use Prim.Native.Nat.{ℕ, zero, suc, _-_}
 use mathlib.Core.Bool.{Bool, true, false}
 use mathlib.Core.List.{List, [], _∷_, _++_, map}
 use mathlib.Core.Path.{_≡_}
 use mathlib.Core.Option.{none, some}
 use lib.ListN.{length, take, replicate}
 use Rattle.wire.specs.BigEndian.{bytesOf}
-use Rattle.wire.specs.Fields.{joined}
+use Rattle.ground.specs.Lists.{joined, padded}
 use Rattle.wire.specs.Codes.{BUSID-LEN}
-use Rattle.exports.specs.Devices.{MAX-DEVICES}
 use Rattle.exports.specs.declared.device.Table.{Table}
-use Rattle.tape.specs.Table.{padded, tapeDevice, tapeTable}
-use Rattle.verdicts.specs.Limits
-use Rattle.model.specs.Model.{Sess, closed, Numbers, numbersOf, Event, list, import, submit, answer, unlink, break, feedOf, openOf}
-use Rattle.model.specs.Book.{Call, feed, complete}
-use Rattle.model.specs.Claims.{answerTo, nextOf}
+use Rattle.tape.specs.Table.{tapeDevice, tapeTable}
+use Rattle.pending.specs.declared.counts.Numbers.{Numbers}
 use Rattle.pending.specs.declared.urb.Urb.{Urb}
+use Rattle.limits.specs.Limits
+use Rattle.verdicts.specs.Verdicts.{fault}
+use Rattle.model.specs.State.{closed, numbersOf}
+use Rattle.model.specs.Answers.{Outcome, done, Event, list, import, submit, answer, unlink, break}
+use Rattle.model.specs.Acts.{Buffers, feedOf}
+use Rattle.model.specs.Book.{Call, feed, complete}
+use Rattle.model.specs.Corollaries.{sessionFrom}
 
 -- ## What is done
 
 -- The tables, with every place of their arrays, as the code has them: the tape's, and one like it that exports nothing.
 abbrev pub nothingExported : Table
-nothingExported = record { devices = replicate MAX-DEVICES tapeDevice; count = 0 }
+nothingExported = record { devices = replicate Limits.MAX-DEVICES tapeDevice; count = 0 }
 
 -- A busid with zeros behind it.
 abbrev pub busid : List ℕ → List ℕ
 busid bytes = padded BUSID-LEN bytes
 
--- A feed with buffers of the least sizes, the reply's bytes all 0xee.
+-- Buffers of the least sizes, the reply's bytes all 0xee.
+abbrev pub lentBuffers : Buffers
+lentBuffers = record { work = replicate Limits.WORK-LEN 0; reply = replicate Limits.REPLY-LEN 0xee }
+
 abbrev pub fed : List ℕ → Call
-fed piece = feed piece (record { work = replicate Limits.WORK-LEN 0; reply = replicate Limits.REPLY-LEN 0xee })
+fed piece = feed piece lentBuffers
 
 abbrev pub words : List ℕ → List ℕ
 words ws = joined (bytesOf 4) ws
 
-abbrev pub importOf : List ℕ → Call
-importOf name = fed (0x01 ∷ 0x11 ∷ 0x80 ∷ 0x03 ∷ 0 ∷ 0 ∷ 0 ∷ 0 ∷ busid name)
+abbrev pub importOf : List ℕ → List ℕ
+importOf name = 0x01 ∷ 0x11 ∷ 0x80 ∷ 0x03 ∷ 0 ∷ 0 ∷ 0 ∷ 0 ∷ busid name
 
+-- The tape's device is attached.
 abbrev pub attached : Call
-attached = importOf (0x31 ∷ 0x2d ∷ 0x31 ∷ [])
+attached = fed (importOf (0x31 ∷ 0x2d ∷ 0x31 ∷ []))
 
--- 000's CmdIntrIN with another seqnum, devid, ep and length.
-abbrev pub intrIn : ℕ → ℕ → ℕ → ℕ → Call
-intrIn seqnum devid ep size =
-    fed (words (1 ∷ seqnum ∷ devid ∷ 1 ∷ ep ∷ 0x200 ∷ size ∷ 0xffffffff ∷ 0 ∷ 4 ∷ 0 ∷ 0 ∷ []))
+-- the kernel document's CmdIntrIN with another seqnum, devid, ep and length.
+abbrev pub intrIn : ℕ → ℕ → ℕ → ℕ → List ℕ
+intrIn seqnum devid ep size = words (1 ∷ seqnum ∷ devid ∷ 1 ∷ ep ∷ 0x200 ∷ size ∷ 0xffffffff ∷ 0 ∷ 4 ∷ 0 ∷ 0 ∷ [])
 
 -- An unlink, with the right devid and zero padding.
-abbrev pub unlinkOf : ℕ → ℕ → Call
-unlinkOf seqnum target = fed (words (2 ∷ seqnum ∷ 0x0001000f ∷ 0 ∷ 0 ∷ target ∷ 0 ∷ 0 ∷ 0 ∷ 0 ∷ 0 ∷ 0 ∷ []))
+abbrev pub unlinkOf : ℕ → ℕ → List ℕ
+unlinkOf seqnum target = words (2 ∷ seqnum ∷ 0x0001000f ∷ 0 ∷ 0 ∷ target ∷ 0 ∷ 0 ∷ 0 ∷ 0 ∷ 0 ∷ 0 ∷ [])
 
 -- As many submits as asked, with seqnums from one on.
 abbrev pub submits : ℕ → ℕ → List Call
 submits zero from = []
-submits (suc n) from = intrIn from 0x0001000f 1 64 ∷ submits n (suc from)
+submits (suc n) from = fed (intrIn from 0x0001000f 1 64) ∷ submits n (suc from)
 
 abbrev pub returns : ℕ → Call
-returns ticket = complete (record { ticket = ticket; status = 0; actual = 0; frame = []; header = replicate 48 0 })
+returns ticket = complete (record { ticket = ticket; status = 0; actual = 0; payload = []; header = replicate 48 0 })
 
--- ## What is seen of the last call
+-- ## What is seen of the last feed
 
 pub record Seen : Type 0 where
-  pub event : Event
+  pub event : Outcome Event
   -- the reply buffer's first 64 bytes at exit
   pub bytes : List ℕ
   pub closed : Bool
   pub numbers : Numbers
 
-abbrev pub replyAt : Sess → Call → List ℕ
-replyAt s (feed p lent) = take 64 (feedOf s lent p .buffers .reply)
-replyAt s (complete c) = []
-replyAt s Call.close = []
-
-abbrev pub lastSeen : Sess → List Call → Call → Seen
-lastSeen s [] c = record { event = answerTo s c .event; bytes = replyAt s c; closed = closed (nextOf s c); numbers = numbersOf (nextOf s c) }
-lastSeen s (d ∷ ds) c = lastSeen (nextOf s d) ds c
-
--- A case: the table, the calls before, the last call, and what must be seen of it.
+-- A case: the table, the calls before, the piece that is fed last, and what must be seen of that.
 pub record Exchange : Type 0 where
   pub table : Table
   pub before : List Call
-  pub last : Call
+  pub last : List ℕ
   pub seen : Seen
 
 abbrev pub seenOf : Exchange → Seen
-seenOf x = lastSeen (openOf (x .table) .next) (x .before) (x .last)
+seenOf x =
+    let r = feedOf (sessionFrom (x .table) (x .before)) lentBuffers (x .last) in
+    record { event = r .event; bytes = take 64 (r .buffers .reply); closed = closed (r .next); numbers = numbersOf (r .next) }
 
 abbrev pub said : Exchange → Seen
 said x = x .seen
@@ -97,16 +96,17 @@ counts a p r u d = record { accepted = a; pending = p; returned = r; unlinked = 
 abbrev pub reply : List ℕ → List ℕ
 reply bytes = bytes ++ replicate (64 - length bytes) 0xee
 
-abbrev pub zeros : ℕ → List ℕ
-zeros n = replicate n 0
+abbrev pub zeroBytes : ℕ → List ℕ
+zeroBytes n = replicate n 0
 
 -- The record of CmdIntrIN.
 abbrev pub intrUrb : ℕ → ℕ → ℕ → ℕ → Urb
 intrUrb ticket seqnum ep size =
     record {
+      ticket = ticket;
       transfer =
-          record { ticket = ticket; seqnum = seqnum; direction = 1; ep = ep; flags = 0x200; length = size; frame = 0xffffffff; packets = 0; interval = 4 };
-      setup = zeros 8;
+          record { seqnum = seqnum; direction = 1; ep = ep; flags = 0x200; length = size; start = 0xffffffff; packets = 0; interval = 4 };
+      setup = zeroBytes 8;
     }
 
 abbrev pub minus-19 : List ℕ
@@ -118,22 +118,28 @@ exchanges =
     record {
       table = nothingExported;
       before = [];
-      last = fed (0x01 ∷ 0x11 ∷ 0x80 ∷ 0x05 ∷ 0 ∷ 0 ∷ 0 ∷ 0 ∷ []);
-      seen = record { event = list; bytes = reply (0x01 ∷ 0x11 ∷ 0x00 ∷ 0x05 ∷ 0 ∷ 0 ∷ 0 ∷ 0 ∷ 0 ∷ 0 ∷ 0 ∷ 0 ∷ []); closed = true; numbers = counts 0 0 0 0 0 };
+      last = 0x01 ∷ 0x11 ∷ 0x80 ∷ 0x05 ∷ 0 ∷ 0 ∷ 0 ∷ 0 ∷ [];
+      seen =
+          record {
+            event = done list;
+            bytes = reply (0x01 ∷ 0x11 ∷ 0x00 ∷ 0x05 ∷ 0 ∷ 0 ∷ 0 ∷ 0 ∷ 0 ∷ 0 ∷ 0 ∷ 0 ∷ []);
+            closed = true;
+            numbers = counts 0 0 0 0 0;
+          };
     }
     -- an unknown busid
     ∷ record {
       table = tapeTable;
       before = [];
       last = importOf (0x31 ∷ 0x2d ∷ 0x32 ∷ []);
-      seen = record { event = import 1; bytes = reply (0x01 ∷ 0x11 ∷ 0x00 ∷ 0x03 ∷ 0 ∷ 0 ∷ 0 ∷ 1 ∷ []); closed = true; numbers = counts 0 0 0 0 0 };
+      seen = record { event = done (import 1); bytes = reply (0x01 ∷ 0x11 ∷ 0x00 ∷ 0x03 ∷ 0 ∷ 0 ∷ 0 ∷ 1 ∷ []); closed = true; numbers = counts 0 0 0 0 0 };
     }
     -- CmdIntrIN for the attached device, and for another
     ∷ record {
       table = tapeTable;
       before = attached ∷ [];
       last = intrIn 0xd05 0x0001000f 1 64;
-      seen = record { event = submit (intrUrb 1 0xd05 1 64); bytes = reply []; closed = false; numbers = counts 1 1 0 0 0 };
+      seen = record { event = done (submit (intrUrb 1 0xd05 1 64)); bytes = reply []; closed = false; numbers = counts 1 1 0 0 0 };
     }
     ∷ record {
       table = tapeTable;
@@ -141,8 +147,8 @@ exchanges =
       last = intrIn 0xd05 0x0001000e 1 64;
       seen =
           record {
-            event = answer 0xd05 0xffffffed;
-            bytes = reply (0 ∷ 0 ∷ 0 ∷ 3 ∷ 0 ∷ 0 ∷ 0x0d ∷ 0x05 ∷ zeros 12 ++ minus-19 ++ zeros 4 ++ (0xff ∷ 0xff ∷ 0xff ∷ 0xff ∷ zeros 16));
+            event = done (answer 0xd05 0xffffffed);
+            bytes = reply (0 ∷ 0 ∷ 0 ∷ 3 ∷ 0 ∷ 0 ∷ 0x0d ∷ 0x05 ∷ zeroBytes 12 ++ minus-19 ++ zeroBytes 4 ++ (0xff ∷ 0xff ∷ 0xff ∷ 0xff ∷ zeroBytes 16));
             closed = false;
             numbers = counts 0 0 0 0 0;
           };
@@ -150,24 +156,24 @@ exchanges =
     -- an unlink of a pending seqnum, and the same again
     ∷ record {
       table = tapeTable;
-      before = attached ∷ intrIn 0xd05 0x0001000f 1 64 ∷ [];
+      before = attached ∷ fed (intrIn 0xd05 0x0001000f 1 64) ∷ [];
       last = unlinkOf 0xd07 0xd05;
       seen =
           record {
-            event = unlink 0xd07 0xffffff98 (some 1);
-            bytes = reply (0 ∷ 0 ∷ 0 ∷ 4 ∷ 0 ∷ 0 ∷ 0x0d ∷ 0x07 ∷ zeros 12 ++ (0xff ∷ 0xff ∷ 0xff ∷ 0x98 ∷ zeros 24));
+            event = done (unlink 0xd07 0xffffff98 (some 1));
+            bytes = reply (0 ∷ 0 ∷ 0 ∷ 4 ∷ 0 ∷ 0 ∷ 0x0d ∷ 0x07 ∷ zeroBytes 12 ++ (0xff ∷ 0xff ∷ 0xff ∷ 0x98 ∷ zeroBytes 24));
             closed = false;
             numbers = counts 1 0 0 1 0;
           };
     }
     ∷ record {
       table = tapeTable;
-      before = attached ∷ intrIn 0xd05 0x0001000f 1 64 ∷ unlinkOf 0xd07 0xd05 ∷ [];
+      before = attached ∷ fed (intrIn 0xd05 0x0001000f 1 64) ∷ fed (unlinkOf 0xd07 0xd05) ∷ [];
       last = unlinkOf 0xd07 0xd05;
       seen =
           record {
-            event = unlink 0xd07 0 none;
-            bytes = reply (0 ∷ 0 ∷ 0 ∷ 4 ∷ 0 ∷ 0 ∷ 0x0d ∷ 0x07 ∷ zeros 40);
+            event = done (unlink 0xd07 0 none);
+            bytes = reply (0 ∷ 0 ∷ 0 ∷ 4 ∷ 0 ∷ 0 ∷ 0x0d ∷ 0x07 ∷ zeroBytes 40);
             closed = false;
             numbers = counts 1 0 0 1 0;
           };
@@ -177,20 +183,20 @@ exchanges =
       table = tapeTable;
       before = attached ∷ [];
       last = intrIn 0xd05 0x0001000f 1 16384;
-      seen = record { event = submit (intrUrb 1 0xd05 1 16384); bytes = reply []; closed = false; numbers = counts 1 1 0 0 0 };
+      seen = record { event = done (submit (intrUrb 1 0xd05 1 16384)); bytes = reply []; closed = false; numbers = counts 1 1 0 0 0 };
     }
     ∷ record {
       table = tapeTable;
-      before = attached ∷ intrIn 0xd05 0x0001000f 1 64 ∷ [];
+      before = attached ∷ fed (intrIn 0xd05 0x0001000f 1 64) ∷ [];
       last = intrIn 0xd06 0x0001000f 1 16385;
-      seen = record { event = break 14 (1 ∷ []); bytes = reply []; closed = true; numbers = counts 1 0 0 0 1 };
+      seen = record { event = done (break (fault 14) (1 ∷ [])); bytes = reply []; closed = true; numbers = counts 1 0 0 0 1 };
     }
     -- the highest endpoint, and one more
     ∷ record {
       table = tapeTable;
       before = attached ∷ [];
       last = intrIn 0xd05 0x0001000f 15 64;
-      seen = record { event = submit (intrUrb 1 0xd05 15 64); bytes = reply []; closed = false; numbers = counts 1 1 0 0 0 };
+      seen = record { event = done (submit (intrUrb 1 0xd05 15 64)); bytes = reply []; closed = false; numbers = counts 1 1 0 0 0 };
     }
     ∷ record {
       table = tapeTable;
@@ -198,8 +204,10 @@ exchanges =
       last = intrIn 0xd05 0x0001000f 16 64;
       seen =
           record {
-            event = answer 0xd05 0xffffffea;
-            bytes = reply (0 ∷ 0 ∷ 0 ∷ 3 ∷ 0 ∷ 0 ∷ 0x0d ∷ 0x05 ∷ zeros 12 ++ (0xff ∷ 0xff ∷ 0xff ∷ 0xea ∷ zeros 4) ++ (0xff ∷ 0xff ∷ 0xff ∷ 0xff ∷ zeros 16));
+            event = done (answer 0xd05 0xffffffea);
+            bytes =
+                reply
+                (0 ∷ 0 ∷ 0 ∷ 3 ∷ 0 ∷ 0 ∷ 0x0d ∷ 0x05 ∷ zeroBytes 12 ++ (0xff ∷ 0xff ∷ 0xff ∷ 0xea ∷ zeroBytes 4) ++ (0xff ∷ 0xff ∷ 0xff ∷ 0xff ∷ zeroBytes 16));
             closed = false;
             numbers = counts 0 0 0 0 0;
           };
@@ -209,7 +217,7 @@ exchanges =
       table = tapeTable;
       before = attached ∷ submits 31 1;
       last = intrIn 32 0x0001000f 1 64;
-      seen = record { event = submit (intrUrb 32 32 1 64); bytes = reply []; closed = false; numbers = counts 32 32 0 0 0 };
+      seen = record { event = done (submit (intrUrb 32 32 1 64)); bytes = reply []; closed = false; numbers = counts 32 32 0 0 0 };
     }
     ∷ record {
       table = tapeTable;
@@ -217,8 +225,10 @@ exchanges =
       last = intrIn 33 0x0001000f 1 64;
       seen =
           record {
-            event = answer 33 0xfffffff4;
-            bytes = reply (0 ∷ 0 ∷ 0 ∷ 3 ∷ 0 ∷ 0 ∷ 0 ∷ 33 ∷ zeros 12 ++ (0xff ∷ 0xff ∷ 0xff ∷ 0xf4 ∷ zeros 4) ++ (0xff ∷ 0xff ∷ 0xff ∷ 0xff ∷ zeros 16));
+            event = done (answer 33 0xfffffff4);
+            bytes =
+                reply
+                (0 ∷ 0 ∷ 0 ∷ 3 ∷ 0 ∷ 0 ∷ 0 ∷ 33 ∷ zeroBytes 12 ++ (0xff ∷ 0xff ∷ 0xff ∷ 0xf4 ∷ zeroBytes 4) ++ (0xff ∷ 0xff ∷ 0xff ∷ 0xff ∷ zeroBytes 16));
             closed = false;
             numbers = counts 32 32 0 0 0;
           };
@@ -227,7 +237,7 @@ exchanges =
       table = tapeTable;
       before = attached ∷ submits 32 1 ++ (returns 7 ∷ []);
       last = intrIn 33 0x0001000f 1 64;
-      seen = record { event = submit (intrUrb 33 33 1 64); bytes = reply []; closed = false; numbers = counts 33 32 1 0 0 };
+      seen = record { event = done (submit (intrUrb 33 33 1 64)); bytes = reply []; closed = false; numbers = counts 33 32 1 0 0 };
     }
     ∷ []
 
@@ -235,6 +245,6 @@ exchanges =
 abbrev pub places : Exchange → ℕ
 places x = length (x .table .devices)
 
--- Each exchange is seen as 01 says, over a table that the code can have.
+-- Each exchange is seen as the rules say, over a table that the code can have.
 abbrev pub Known : Type 0
-Known = (map seenOf exchanges ≡ map said exchanges) × (map places exchanges ≡ replicate (length exchanges) MAX-DEVICES)
+Known = (map seenOf exchanges ≡ map said exchanges) × (map places exchanges ≡ replicate (length exchanges) Limits.MAX-DEVICES)

@@ -1,5 +1,5 @@
 -- A device passes the test exactly when it keeps the rules, and two devices exactly when they do.
-use Rattle.exports.specs.Devices.{MAX-INTERFACES}
+use Rattle.limits.specs.Limits.{MAX-INTERFACES, MAX-BUSNUM, MAX-DEVNUM}
 use Prim.Native.Nat.{ℕ, zero, suc, suc-le-suc, _+_, _-_, _<_, _≤_}
 use mathlib.Core.Path.{_≡_, refl, sym, ap, _∙_}
 use mathlib.Core.Logic.{_↔_}
@@ -12,8 +12,9 @@ use lib.Dec.{eqb}
 use lib.ListN.{length, drop, getD, length-drop}
 use lib.Seq.{getD-drop}
 use Rattle.exports.specs.declared.device.Device.{Device}
-use Rattle.exports.specs.Rules.{MAX-BUSNUM, MAX-DEVNUM, firstZero, text, within, goodDevice, same, sameNumbers, apart, Text, DeviceRules}
-use Rattle.exports.proofs.Tests.{leb-iff, eqb-iff, and-iff, not-iff, not-or, same-iff, every-iff}
+use Rattle.exports.specs.Rules.{firstZero, text, within, goodDevice, sameNumbers, apart, Text, DeviceRules}
+use Rattle.ground.specs.Lists.{sameBytes}
+use Rattle.ground.proofs.Tests.{leb-iff, eqb-iff, and-iff, not-iff, not-or, same-iff, every-iff}
 
 -- ## A text, of any size
 
@@ -107,5 +108,5 @@ Apart d e = (d .busid ≡ e .busid → ⊥) × ((d .busnum ≡ e .busnum) × (d 
 
 pub apart-iff : (d e : Device) → (apart d e ≡ true) ↔ Apart d e
 apart-iff d e =
-    rw (not-or (same (d .busid) (e .busid)) (sameNumbers d e))
+    rw (not-or (sameBytes (d .busid) (e .busid)) (sameNumbers d e))
     (and-iff (not-iff (same-iff (d .busid) (e .busid))) (not-iff (and-iff (eqb-iff (d .busnum) (e .busnum)) (eqb-iff (d .devnum) (e .devnum)))))

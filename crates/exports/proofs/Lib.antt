@@ -1,4 +1,2 @@
 -- The laws of the devices' rules, which the crates above cite too: Good is the theorem.
-pub mod Walks
-pub mod Tests
 pub mod Good

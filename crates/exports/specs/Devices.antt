@@ -1,20 +1,9 @@
 -- The devices that a table exports, and the interfaces that a device has.
-use Prim.Native.Nat.{ℕ}
 use mathlib.Core.List.{List, []}
 use lib.ListN.{take}
 use Rattle.exports.specs.declared.device.Interface.{Interface}
 use Rattle.exports.specs.declared.device.Device.{Device}
 use Rattle.exports.specs.declared.device.Table.{Table}
-
--- The limits of 01, "Open".
-abbrev pub MAX-DEVICES : ℕ
-MAX-DEVICES = 16
-
-abbrev pub MAX-INTERFACES : ℕ
-MAX-INTERFACES = 16
-
-abbrev pub PATH-LEN : ℕ
-PATH-LEN = 256
 
 -- What is read past the devices of a table.
 abbrev pub noDevice : Device

@@ -1,24 +1,14 @@
--- The rules that the devices of an export table must keep (01, "Open"), one device and two, as tests that compute, and the
+-- The rules that the devices of an export table must keep (PROTOCOL.md, 3.1), one device and two, as tests that compute, and the
 -- same rules with quantifiers. proofs/Good.antt shows that the two agree.
 use Prim.Native.Nat.{ℕ, suc, _<_, _≤_}
 use mathlib.Core.Path.{_≡_}
-use mathlib.Core.Bool.{Bool, true, false, not, cond, _&&_, _||_}
+use mathlib.Core.Bool.{Bool, not, cond, _&&_, _||_}
 use mathlib.Core.List.{List, [], _∷_}
 use lib.Dec.{eqb, leb, ltb}
 use lib.ListN.{length, drop, getD}
+use Rattle.ground.specs.Lists.{every, sameBytes}
 use Rattle.exports.specs.declared.device.Device.{Device}
-use Rattle.exports.specs.Devices.{MAX-INTERFACES}
-
-abbrev pub MAX-BUSNUM : ℕ
-MAX-BUSNUM = 65535
-
-abbrev pub MAX-DEVNUM : ℕ
-MAX-DEVNUM = 127
-
--- Every element passes a test.
-abbrev pub every : {A : Type 0} → (A → Bool) → List A → Bool
-every p [] = true
-every p (x ∷ xs) = p x && every p xs
+use Rattle.limits.specs.Limits.{MAX-INTERFACES, MAX-BUSNUM, MAX-DEVNUM}
 
 -- ## Path and busid
 
@@ -27,12 +17,12 @@ abbrev pub firstZero : List ℕ → ℕ
 firstZero [] = 0
 firstZero (b ∷ bs) = cond (eqb b 0) 0 (suc (firstZero bs))
 
-abbrev pub zeros : List ℕ → Bool
-zeros bs = every (λ b. eqb b 0) bs
+abbrev pub allZero : List ℕ → Bool
+allZero bs = every (λ b. eqb b 0) bs
 
 -- "start with a non-zero byte, contain a zero byte, and have only zeros after the first one": at any size.
 unfoldable pub text : List ℕ → Bool
-text bs = ltb 0 (firstZero bs) && ltb (firstZero bs) (length bs) && zeros (drop (firstZero bs) bs)
+text bs = ltb 0 (firstZero bs) && ltb (firstZero bs) (length bs) && allZero (drop (firstZero bs) bs)
 
 -- ## One device
 
@@ -48,19 +38,12 @@ goodDevice d =
 
 -- ## Two devices
 
--- Every byte is the same, not only those of the text.
-abbrev pub same : List ℕ → List ℕ → Bool
-same [] [] = true
-same [] (y ∷ ys) = false
-same (x ∷ xs) [] = false
-same (x ∷ xs) (y ∷ ys) = eqb x y && same xs ys
-
 abbrev pub sameNumbers : Device → Device → Bool
 sameNumbers d e = eqb (d .busnum) (e .busnum) && eqb (d .devnum) (e .devnum)
 
 -- What "busids distinct" and "no two devices with equal busnum and devnum" rule out.
 abbrev pub clash : Device → Device → Bool
-clash d e = same (d .busid) (e .busid) || sameNumbers d e
+clash d e = sameBytes (d .busid) (e .busid) || sameNumbers d e
 
 abbrev pub apart : Device → Device → Bool
 apart d e = not (clash d e)

@@ -1,13 +1,8 @@
 // What the box exports: a table of devices, each with its interfaces.
+use limits::MAX_DEVICES;
+use limits::MAX_INTERFACES;
+use limits::PATH_LEN;
 use wire::codes::BUSID_LEN;
-
-// The most devices of a table and interfaces of a device.
-pub const MAX_DEVICES: usize = 16;
-
-pub const MAX_INTERFACES: usize = 16;
-
-// The bytes of a device's path on the box.
-pub const PATH_LEN: usize = 256;
 
 #[repr(C)]
 pub struct Interface {

@@ -1,14 +1,13 @@
 // The rules of one device and of two, which the devices of an export table keep.
 use crate::device::Device;
-use crate::device::MAX_INTERFACES;
+use limits::MAX_BUSNUM;
+use limits::MAX_DEVNUM;
+use limits::MAX_INTERFACES;
 use wire::codes::BUSID_LEN;
 ghost use mathlib.Core.Path.{_≡_};
 ghost use lib.ListN.{drop};
-ghost use Rattle.exports.specs.Rules.{firstZero, zeros, text, within, goodDevice, same, sameNumbers, clash};
-
-pub const MAX_BUSNUM: u32 = 65_535;
-
-pub const MAX_DEVNUM: u32 = 127;
+ghost use Rattle.exports.specs.Rules.{firstZero, allZero, text, within, goodDevice, sameNumbers, clash};
+ghost use Rattle.ground.specs.Lists.{sameBytes};
 
 // Where the first zero byte stands; past the end where there is none.
 fn first_zero(bytes: &[u8]) -> usize
@@ -26,7 +25,7 @@ fn first_zero(bytes: &[u8]) -> usize
 
 // From here on there are only zeros.
 fn zeros_from(bytes: &[u8], at: usize) -> bool
-    ensures { λ r. ⌜ r ≡ zeros (drop at (now (bytes .entry))) ⌝ }
+    ensures { λ r. ⌜ r ≡ allZero (drop at (now (bytes .entry))) ⌝ }
 {
     let mut i = at;
     while i < bytes.len() {
@@ -84,7 +83,7 @@ pub fn good_device(d: Device) -> bool
 }
 
 fn same_busid(a: [u8; BUSID_LEN], b: [u8; BUSID_LEN]) -> bool
-    ensures { λ r. ⌜ r ≡ same a b ⌝ }
+    ensures { λ r. ⌜ r ≡ sameBytes a b ⌝ }
 {
     let mut k = 0;
     while k < BUSID_LEN {

@@ -2,150 +2,151 @@
 use Prim.Native.Nat.{ℕ}
 use native.Mathlib.Omega.{arith}
 use native.Mathlib.Nat.{zero-add}
-use mathlib.Core.Path.{_≡_, refl, sym, ap, subst, _∙_}
-use mathlib.Core.Bool.{Bool, true, false, cond, not, _&&_, true≢false}
-use mathlib.Core.List.{List, [], _∷_}
+use mathlib.Core.Path.{_≡_, refl, sym, ap, _∙_}
+use mathlib.Core.Bool.{Bool, true, false, cond, not, _&&_}
+use mathlib.Core.List.{List, []}
 use mathlib.Core.Option.{none, some}
 use lib.Dec.{eqb}
-use lib.ListN.{length, replicate, length-replicate}
-use borrow.Author.Tests.{eqb-true}
+use lib.ListN.{length}
 use Rattle.exports.specs.declared.device.Table.{Table}
+use Rattle.pending.specs.Changes.{changed, keeps}
 use Rattle.pending.specs.declared.list.Pending.{Pending}
-use Rattle.verdicts.specs.Limits
-use Rattle.verdicts.specs.Tests.{first, decide}
+use Rattle.pending.proofs.Laws.{keep-is}
+use Rattle.limits.specs.Limits
+use Rattle.ground.specs.Tests.{Test, first, decide, by-first}
 use Rattle.verdicts.specs.Verdicts
 use Rattle.verdicts.proofs.Good.{feed-clear}
-use Rattle.model.specs.Machine.{Fed, feed}
-use Rattle.model.specs.Model.{Sess, Event, Buffers, isHungry, grow, put, judge, after, feedTests, feedOf, feedBytes, tell, replyTo}
-use Rattle.model.specs.Cut.{lent}
-use Rattle.model.proofs.Cutting
-use Rattle.model.proofs.Facts.{differ}
-use Rattle.model.proofs.Untouched.{untouched}
-use Rattle.links.specs.Links.{Parts, countsFit, progressFits, phaseOf, viewOf, whole, Live}
+use Rattle.model.specs.State.{Sess}
+use Rattle.model.specs.Acts.{Buffers, feedTestsOf, feedBytes, doneFeed, refusedFeed, feedOf}
+use Rattle.links.specs.Links.{Parts, whole, countsFit, progressFits, phaseOf, viewOfParts, Live}
+use Rattle.links.specs.declared.link.Link.{Link}
+use Rattle.links.proofs.Fits.{waiting-known, attached-known}
+use Rattle.links.proofs.Views.{live, live-view}
 use Rattle.events.specs.Answers.{eventOf}
-use Rattle.events.specs.Plans.{Said, told, droppedBy, carried, plain}
-use Rattle.feeding.specs.Feeding.{saying, fedOf, fedFrom, Feeds, Plans}
-use Rattle.links.specs.declared.Link.{Link}
+use Rattle.events.specs.Plans.{Result, ticketsDropped, refusedPlan, replyBytes, requestBytes}
 use Rattle.events.specs.declared.answer.Event.{Event as Case}
 use Rattle.events.specs.declared.answer.Event.the-variants.{Refused}
-use Rattle.events.specs.declared.plan.Change.the-variants.{Keep}
-use Rattle.events.specs.declared.plan.Reply.the-variants.{Silent}
 use Rattle.events.specs.declared.plan.Plan.{Plan}
-use Rattle.links.proofs.Fits.{attached-known}
-use Rattle.links.proofs.Views.{live-view}
+use Rattle.events.specs.declared.plan.RequestPlan.{RequestPlan}
+use Rattle.feeding.specs.Planning.{messagePlan, requestPlan}
+use Rattle.feeding.specs.Feeding.{resultOf, fedOf, Composed, Arrays, MessageComposed, RequestComposed}
+use Rattle.feeding.proofs.Stages.{consuming, fedFrom}
+use Rattle.feeding.proofs.Pieces.{Feeds}
+use Rattle.feeding.proofs.Messages.{attached-feeds}
+use Rattle.feeding.proofs.Requests.{waiting-feeds}
 
 module _ (s : Sess) (b : Buffers) (piece : List ℕ) where
-  pub feed-refused : (n : ℕ) → first (feedTests s b) ≡ some n → fedOf s b piece ≡ told s b 0 (Event.refusal n)
-  unfolding fedOf feedOf decide told tell replyTo
+  feed-refused : (n : ℕ) → first (feedTestsOf s b) ≡ some n → fedOf s b piece ≡ resultOf s piece (refusedFeed s b n)
+  unfolding fedOf feedOf decide
   feed-refused n f = rw f
 
-  pub feed-goes : first (feedTests s b) ≡ none → fedOf s b piece ≡ fedFrom 0 s b piece
+  feed-goes : first (feedTestsOf s b) ≡ none → fedOf s b piece ≡ fedFrom 0 s b piece
   unfolding fedOf feedOf decide fedFrom
   feed-goes f =
-      let x = saying s piece (feedBytes s b piece) in
-      rw f (λ i. record { event = x .event; setup = x .setup; dropped = x .dropped; used = sym (zero-add (x .used)) i; written = x .written; buffers = x .buffers; next = x .next })
+      let x = resultOf s piece (doneFeed (feedBytes s b piece)) in
+      rw f (ap (λ (n : ℕ). consuming n x) (sym (zero-add (x .consumed))))
 
--- in which phase the bytes are taken, as the code tests it
-module _ (k : Link) (n phase : ℕ) (p : phase ≡ phaseOf k n) where
+-- in which phase the bytes are taken, as the code tests it: a session that waits or is closed, and one that is attached or is closed
+module _ (k : Link) (n : ℕ) where
   abbrev phased : Bool → Bool → ℕ
   phased a b = cond (a && b) (k .phase) Limits.CLOSED
 
-  pub in-phase : (x : ℕ) → eqb Limits.CLOSED x ≡ false → not (eqb phase x) ≡ false → (countsFit (k .counts) n ≡ true) × (progressFits (k .phase) (k .progress) ≡ true) × (k .phase ≡ x)
+  closed-waits : k .phase ≡ Limits.WAITING → not (eqb (phaseOf k n) Limits.WAITING) ≡ eqb (phaseOf k n) Limits.CLOSED
   unfolding phaseOf
-  in-phase x d h = at (countsFit (k .counts) n) (progressFits (k .phase) (k .progress)) (ap (λ (y : ℕ). not (eqb y x)) (sym p) ∙ h)
-    where
-      is : (c : Bool) → eqb (k .phase) x ≡ c → not c ≡ false → k .phase ≡ x
-      is true e h = eqb-true (k .phase) x e
-      is false e h = absurd (true≢false h)
-
-      shut : {A : Type 0} → not (eqb Limits.CLOSED x) ≡ false → A
-      shut h = absurd (true≢false (ap not (sym d) ∙ h))
-
-      at : (a b : Bool) → not (eqb (phased a b) x) ≡ false → (a ≡ true) × (b ≡ true) × (k .phase ≡ x)
-      at true true h = (refl, refl, is (eqb (k .phase) x) refl h)
-      at true false h = shut h
-      at false b h = shut h
-
-  pub closed-waits : k .phase ≡ Limits.WAITING → not (eqb phase Limits.WAITING) ≡ eqb (phaseOf k n) Limits.CLOSED
-  unfolding phaseOf
-  closed-waits w = rw p (at (countsFit (k .counts) n) (progressFits (k .phase) (k .progress)))
+  closed-waits w = at (countsFit (k .counts) n) (progressFits (k .phase) (k .progress))
     where
       at : (a b : Bool) → not (eqb (phased a b) Limits.WAITING) ≡ eqb (phased a b) Limits.CLOSED
       at true true = rw w
       at true false = refl
       at false b = refl
 
-  pub closed-away : (k .phase ≡ Limits.WAITING → ⊥) → not (eqb phase Limits.ATTACHED) ≡ eqb (phaseOf k n) Limits.CLOSED
+  closed-away : (k .phase ≡ Limits.WAITING → ⊥) → not (eqb (phaseOf k n) Limits.ATTACHED) ≡ eqb (phaseOf k n) Limits.CLOSED
   unfolding phaseOf
-  closed-away w = rw p (at (countsFit (k .counts) n) (progressFits (k .phase) (k .progress)) refl)
+  closed-away w = at (countsFit (k .counts) n) (progressFits (k .phase) (k .progress)) refl
     where
       at : (a b : Bool) → progressFits (k .phase) (k .progress) ≡ b → not (eqb (phased a b) Limits.ATTACHED) ≡ eqb (phased a b) Limits.CLOSED
       at true true e = rw (attached-known (k .phase) (k .progress) e w .0)
       at true false e = refl
       at false b e = refl
 
--- a feed that goes on is never refused
-never-refused : (s : Sess) (b : Buffers) (piece : List ℕ) → first (feedTests s b) ≡ none → (n : ℕ) → feedOf s b piece .event ≡ Event.refusal n → ⊥
-unfolding feedOf decide feed
-never-refused s b [] f n h = clash (rw f at h)
-  where
-    clash : Event.hungry ≡ Event.refusal n → ⊥
-    clash z = differ (ap (λ (e : Event). cond (isHungry e) 0 1) z)
-never-refused s b (x ∷ xs) f n h =
-    let u : feedOf s b (x ∷ xs) .used ≡ 0 = ap (λ (r : Fed Sess Event Buffers). r .used) (untouched s b (x ∷ xs) .refused n h) in
-    omega (arith, u, rw f at u, Cutting.used-some grow put judge after tell Event.hungry isHungry (x ∷ xs) b s (omega arith))
-
 -- the plan of a feed, by the verdict on the phase and the buffers
-module _ (t : Table) (k : Link) (l : Pending) (piece : List ℕ) (closed : Bool) (work reply : ℕ) (e : closed ≡ eqb (phaseOf k (l .count)) Limits.CLOSED) where
+module _ (t : Table) (k : Link) (l : Pending) (piece : List ℕ) (b : Buffers) (arrays : Arrays k l) (closed : Bool)
+    (e : closed ≡ eqb (phaseOf k (l .count)) Limits.CLOSED) where
   abbrev s : Parts
   s = whole t k l
 
-  fed-by : (b : Buffers) → Verdicts.feedTests closed (length (b .work)) (length (b .reply)) ≡ feedTests (viewOf s) b
-  fed-by b = rw e
+  abbrev tests : List (Test ℕ)
+  tests = Verdicts.feedTests closed (length (b .work)) (length (b .reply))
+
+  tests-are : first tests ≡ first (feedTestsOf (viewOfParts s) b)
+  tests-are = rw e
+
+  kept : changed l (keeps (l .count)) ≡ l
+  kept = keep-is l (arrays .1)
 
   -- a refusal says nothing, and leaves all as it was
-  refusal-plan : (n : ℕ) → first (Verdicts.feedTests closed work reply) ≡ some n → Plans (plain k Keep (Refused n) 0 Silent) t k l piece work reply
-  unfolding told tell replyTo
-  refusal-plan n f =
+  composed-refused : (n : ℕ) → first tests ≡ some n → Composed (refusedPlan k (l .count) n) [] t k l piece b
+  composed-refused n f =
       record {
-        placed = tt;
         inside = omega arith;
-        room = omega arith;
+        fits = omega arith;
         takes = λ _. omega arith;
-        fed = λ b hw hr. sym (feed-refused (viewOf s) b piece n (ap first (sym (fed-by b)) ∙ rw (hw, hr) f));
+        fed = rw kept (sym (feed-refused (viewOfParts s) b piece n (sym tests-are ∙ f)));
         same = λ _ _. (refl, refl);
-        tidy = λ h. h;
+        tidy = λ h. rw kept h;
       }
 
-  pub plans-refusal : (r : Plan) (n : ℕ) → first (Verdicts.feedTests closed work reply) ≡ some n → r ≡ plain k Keep (Refused n) 0 Silent → Plans r t k l piece work reply
-  plans-refusal r n f a = subst (λ (z : Plan). Plans z t k l piece work reply) (sym a) (refusal-plan n f)
+  module _ (f : first tests ≡ none) where
+    -- it isn't closed, and its parts fit together
+    lives : Live s
+    lives = live s (sym e ∙ feed-clear closed (length (b .work)) (length (b .reply)) f .0)
 
-  -- lent buffers of these lengths
-  abbrev zeros : Buffers
-  zeros = lent (replicate work 0) (replicate reply 0)
+    -- what is said of bytes isn't a refusal
+    never : (bytes : List ℕ) (r : Plan) (n : ℕ) → Feeds bytes r t k l 0 (k .progress) piece → r .event ≡ Refused n → ⊥
+    unfolding fedFrom
+    never bytes r n y z =
+        let v = ap (λ (x : Case). eventOf x (r .setup) (ticketsDropped l (r .change))) z in
+        let q : _≡_ {A = ℕ} 0 1 = cc (v, ap (λ (x : Result). x .event) (y .fed b)) in
+        omega arith
 
-  module _ (f : first (Verdicts.feedTests closed work reply) ≡ none) where
-    goes : (b : Buffers) → length (b .work) ≡ work → length (b .reply) ≡ reply → first (feedTests (viewOf s) b) ≡ none
-    goes b hw hr = ap first (sym (fed-by b)) ∙ rw (hw, hr) f
-
-    -- what is said isn't a refusal
-    told-of : (r : Plan) (n : ℕ) → carried t l r piece zeros ≡ fedOf (viewOf s) zeros piece → r .event ≡ Refused n → ⊥
-    unfolding fedOf
-    told-of r n h z =
-        never-refused (viewOf s) zeros piece (goes zeros (length-replicate work 0) (length-replicate reply 0)) n
-        (sym (ap (λ (x : Said). x .event) h) ∙ ap (λ (x : Case). eventOf x (r .setup) (droppedBy l (r .change))) z)
-
-    pub plans-feed : (r : Plan) → Live s → Feeds r t k l 0 (k .progress) piece → Plans r t k l piece work reply
-    plans-feed r v y =
-        let c = feed-clear closed work reply f in
-        let fed : (b : Buffers) → length (b .work) ≡ work → length (b .reply) ≡ reply → carried t l r piece b ≡ fedOf (viewOf s) b piece =
-        λ b hw hr. y .fed b ∙ ap (λ (x : Sess). fedFrom 0 x b piece) (sym (live-view s v)) ∙ sym (feed-goes (viewOf s) b piece (goes b hw hr)) in
+    composed-feed : (bytes : List ℕ) (r : Plan) → Feeds bytes r t k l 0 (k .progress) piece → Composed r bytes t k l piece b
+    composed-feed bytes r y =
+        let c = feed-clear closed (length (b .work)) (length (b .reply)) f in
         record {
-          placed = y .placed;
           inside = y .inside;
-          room = omega (arith, y .room, c .1);
+          fits = omega (arith, y .room, c .1);
           takes = λ h. omega (arith, c .2);
-          fed = fed;
-          same = λ n z. absurd (told-of r n (fed zeros (length-replicate work 0) (length-replicate reply 0)) z);
+          fed =
+              y .fed b ∙ ap (λ (x : Sess). fedFrom 0 x b piece) (sym (live-view s lives))
+              ∙ sym (feed-goes (viewOfParts s) b piece (sym tests-are ∙ f));
+          same = λ n z. absurd (never bytes r n y z);
           tidy = λ h. y .tidy (h .list) (h .head);
         }
+
+-- ## The two feeds
+
+pub message-composed : MessageComposed
+unfolding messagePlan
+message-composed t k l piece b a w =
+    let closed = not (eqb (phaseOf k (l .count)) Limits.ATTACHED) in
+    let e = closed-away k (l .count) w in
+    by-first (λ (r : Plan). Composed r (replyBytes (r .reply)) t k l piece b)
+    (first (Verdicts.feedTests closed (length (b .work)) (length (b .reply))))
+    (composed-refused t k l piece b a closed e)
+    (λ f.
+    let h = lives t k l piece b a closed e f in
+    let n = attached-known (k .phase) (k .progress) (h .1) w in
+    composed-feed t k l piece b a closed e f _ _ (attached-feeds t k l (h .0, n .0) (a .1) (a .2) piece (a .0) (n .1)))
+
+pub request-composed : RequestComposed
+unfolding requestPlan
+request-composed t k l piece b a ds w =
+    let closed = not (eqb (phaseOf k (l .count)) Limits.WAITING) in
+    let e = closed-waits k (l .count) w in
+    by-first (λ (r : RequestPlan). Composed (r .plan) (requestBytes t (r .reply)) t k l piece b)
+    (first (Verdicts.feedTests closed (length (b .work)) (length (b .reply))))
+    (composed-refused t k l piece b a closed e)
+    (λ f.
+    let h = lives t k l piece b a closed e f in
+    composed-feed t k l piece b a closed e f _ _
+    (waiting-feeds t k l w (h .0) (a .1) (a .2) ds piece (a .0) (waiting-known (k .phase) (k .progress) (h .1) w)))

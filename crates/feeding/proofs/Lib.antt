@@ -1,5 +1,10 @@
--- Why the plan is what the definitions say.
+-- Why the plan of a feed, carried out, is the feed of the definitions.
+pub mod Lending
+pub mod Waiting
 pub mod Stages
 pub mod Moments
+pub mod Headers
 pub mod Pieces
+pub mod Messages
+pub mod Requests
 pub mod Acts

@@ -1,140 +1,144 @@
 -- At which byte of a message what is said.
-use Prim.Native.Nat.{ℕ, zero, _+_, _-_, _≤_, _<_}
+use Prim.Native.Nat.{ℕ, _+_, _-_, _≤_, _<_}
 use native.Mathlib.Omega.{arith}
 use mathlib.Core.Path.{_≡_, refl, ap, _∙_}
 use mathlib.Core.Bool.{false}
-use mathlib.Core.List.{List, _++_, append-nil}
+use mathlib.Core.List.{List, _++_}
 use mathlib.Core.Option.{Option, none, some}
 use lib.ListN.{length, length-append}
 use borrow.Author.Tests.{lt-ltb, le-ltb, eq-eqb, ne-eqb}
 use Rattle.wire.specs.Codes
-use Rattle.messages.specs.Messages.{requestOf, commandOf, unlinkOf}
-use Rattle.verdicts.specs.Limits
-use Rattle.verdicts.specs.Tests.{first, decide, by-first, pick}
-use Rattle.lookup.specs.declared.Found.{Found}
-use Rattle.lookup.specs.declared.Found.the-variants.{At, Nothing}
+use Rattle.messages.specs.Messages.{requestOf, bodyLen, unlinkSeqnum}
+use Rattle.messages.specs.declared.message.Header.{Header}
 use Rattle.pending.specs.Pending.{seqnumOf, findBy}
 use Rattle.pending.specs.declared.urb.Urb.{Urb}
-use Rattle.model.specs.Model
-use Rattle.model.specs.Model.{Sess, isHungry, bodyOf, grow, judge, request, requested, message, headed, submitting, submitted, lookedUp, imports, unlinks, breaks, requestTests, messageTests, submitTests}
-use Rattle.model.specs.Cut.{stepAll}
-use Rattle.model.proofs.Growth.{holding, grow-all}
-use Rattle.feeding.proofs.Stages.{Calm, grows-in}
+use Rattle.limits.specs.Limits
+use Rattle.ground.specs.Tests.{first, decide, by-first, pick}
+use Rattle.verdicts.specs.Verdicts.{requestTests}
+use Rattle.verdicts.specs.declared.verdict.Fault.{Fault}
+use Rattle.model.specs.State.{partly, headed, Sess}
+use Rattle.model.specs.Answers.{hungry, list, isHungry}
+use Rattle.model.specs.Judging.{judge, request, requested, message, wholeHeader, submitting, submitted, lookedUp, imports, unlinks, breaks, headerTestsOf}
+use Rattle.model.specs.Judging.{submitTestsOf}
+use Rattle.model.proofs.Growth.{holding, grow-in, grow-body}
+use Rattle.feeding.proofs.Stages.{Calm}
 
 -- ## A request
 
-module _ (s : Sess) (w : s .phase ≡ Limits.WAITING) where
-  wait-8 : length (s .head) < Codes.OP-LEN → judge s ≡ Model.hungry
+module _ (s : Sess) (m : List ℕ) (w : s .link .phase ≡ Limits.WAITING) (i : s .link .message ≡ partly m) where
+  wait-8 : length m < Codes.OP-LEN → judge s ≡ hungry
   unfolding judge request pick
-  wait-8 h = rw (w, lt-ltb (length (s .head)) Codes.OP-LEN h)
+  wait-8 h = rw (w, i, lt-ltb (length m) Codes.OP-LEN h)
 
-  wait-40 : Codes.OP-LEN < length (s .head) → length (s .head) < Codes.OP-LEN + Codes.BUSID-LEN → judge s ≡ Model.hungry
+  wait-40 : Codes.OP-LEN < length m → length m < Codes.OP-LEN + Codes.BUSID-LEN → judge s ≡ hungry
   unfolding judge request pick
   wait-40 h l =
-      rw (w, le-ltb (length (s .head)) Codes.OP-LEN (omega arith), ne-eqb (length (s .head)) Codes.OP-LEN (λ e. omega arith), lt-ltb (length (s .head)) (Codes.OP-LEN + Codes.BUSID-LEN) l)
+      rw (
+        w,
+        i,
+        le-ltb (length m) Codes.OP-LEN (omega arith),
+        ne-eqb (length m) Codes.OP-LEN (λ e. omega arith),
+        lt-ltb (length m) (Codes.OP-LEN + Codes.BUSID-LEN) l,
+      )
 
-  pub at-8 : length (s .head) ≡ Codes.OP-LEN → judge s ≡ requested s
+  pub at-8 : length m ≡ Codes.OP-LEN → judge s ≡ requested s m
   unfolding judge request pick
-  at-8 h = rw (w, h)
+  at-8 h = rw (w, i, h)
 
-  pub at-40 : length (s .head) ≡ Codes.OP-LEN + Codes.BUSID-LEN → judge s ≡ imports (lookedUp s)
+  pub at-40 : length m ≡ Codes.OP-LEN + Codes.BUSID-LEN → judge s ≡ imports (lookedUp s)
   unfolding judge request pick
-  at-40 h = rw (w, h)
+  at-40 h = rw (w, i, h)
 
-pub calm-8 : (s : Sess) → s .phase ≡ Limits.WAITING → Calm s (Codes.OP-LEN - length (s .head))
-calm-8 s w ys h l =
-    let e = grows-in s ys (omega arith) in
-    ap (λ (t : Sess). isHungry (judge t)) e ∙ ap isHungry (wait-8 (holding s (s .head ++ ys) (s .body)) w (rw length-append (omega arith)))
+-- before the 8th byte, and between it and the 40th
+module _ (s : Sess) (m : List ℕ) (w : s .link .phase ≡ Limits.WAITING) (i : s .link .message ≡ partly m) where
+  pub calm-8 : Calm s (Codes.OP-LEN - length m)
+  calm-8 ys h l =
+      ap (λ (t : Sess). isHungry (judge t)) (grow-in m ys s i (omega arith))
+      ∙ ap isHungry (wait-8 (holding s (partly (m ++ ys))) (m ++ ys) w refl (rw length-append (omega arith)))
 
-pub calm-40 : (s : Sess) → s .phase ≡ Limits.WAITING → Codes.OP-LEN ≤ length (s .head) → Calm s (Codes.OP-LEN + Codes.BUSID-LEN - length (s .head))
-calm-40 s w k ys h l =
-    let e = grows-in s ys (omega arith) in
-    ap (λ (t : Sess). isHungry (judge t)) e ∙ ap isHungry (wait-40 (holding s (s .head ++ ys) (s .body)) w (rw length-append (omega arith)) (rw length-append (omega arith)))
+  pub calm-40 : Codes.OP-LEN ≤ length m → Calm s (Codes.OP-LEN + Codes.BUSID-LEN - length m)
+  calm-40 k ys h l =
+      ap (λ (t : Sess). isHungry (judge t)) (grow-in m ys s i (omega arith))
+      ∙ ap isHungry (wait-40 (holding s (partly (m ++ ys))) (m ++ ys) w refl (rw length-append (omega arith)) (rw length-append (omega arith)))
 
-module _ (s : Sess) where
-  pub request-bad : (n : ℕ) → first (requestTests (s .head)) ≡ some n → requested s ≡ breaks s n
+module _ (s : Sess) (m : List ℕ) where
+  pub request-bad : (f : Fault) → first (requestTests (requestOf m)) ≡ some f → requested s m ≡ breaks s f
   unfolding requested decide
-  request-bad n f = rw f
+  request-bad f e = rw e
 
-  pub request-list : first (requestTests (s .head)) ≡ none → requestOf (s .head) .code ≡ Codes.OP-REQ-DEVLIST → requested s ≡ Model.list
-  unfolding requested decide pick
-  request-list f e = rw (f, eq-eqb (requestOf (s .head) .code) Codes.OP-REQ-DEVLIST e)
+  module _ (f : first (requestTests (requestOf m)) ≡ none) where
+    pub request-list : requestOf m .code ≡ Codes.OP-REQ-DEVLIST → requested s m ≡ list
+    unfolding requested decide pick
+    request-list e = rw (f, eq-eqb (requestOf m .code) Codes.OP-REQ-DEVLIST e)
 
-  pub request-import : first (requestTests (s .head)) ≡ none → (requestOf (s .head) .code ≡ Codes.OP-REQ-DEVLIST → ⊥) → requested s ≡ Model.hungry
-  unfolding requested decide pick
-  request-import f e = rw (f, ne-eqb (requestOf (s .head) .code) Codes.OP-REQ-DEVLIST e)
-
-pub import-told : (o : Found) → isHungry (imports o) ≡ false
-import-told (At i) = refl
-import-told Nothing = refl
+    pub request-import : (requestOf m .code ≡ Codes.OP-REQ-DEVLIST → ⊥) → requested s m ≡ hungry
+    unfolding requested decide pick
+    request-import e = rw (f, ne-eqb (requestOf m .code) Codes.OP-REQ-DEVLIST e)
 
 -- ## A message
 
-module _ (s : Sess) (w : s .phase ≡ Limits.WAITING → ⊥) where
-  judge-message : judge s ≡ message s
-  unfolding judge pick
-  judge-message = rw (ne-eqb (s .phase) Limits.WAITING w)
+module _ (s : Sess) (w : s .link .phase ≡ Limits.WAITING → ⊥) where
+  wait-48 : (m : List ℕ) → s .link .message ≡ partly m → judge s ≡ hungry
+  unfolding judge message pick
+  wait-48 m i = rw (ne-eqb (s .link .phase) Limits.WAITING w, i)
 
-  wait-48 : length (s .head) < Codes.HEADER-LEN → judge s ≡ Model.hungry
-  unfolding message pick
-  wait-48 h = judge-message ∙ rw (lt-ltb (length (s .head)) Codes.HEADER-LEN h)
+  pub at-48 : (h : Header) → s .link .message ≡ headed h 0 → judge s ≡ wholeHeader s h
+  unfolding judge message pick
+  at-48 h i = rw (ne-eqb (s .link .phase) Limits.WAITING w, i)
 
-  pub at-48 : length (s .head) ≡ Codes.HEADER-LEN → s .body ≡ 0 → judge s ≡ headed s
-  unfolding message pick
-  at-48 h b = judge-message ∙ rw (h, b)
+  module _ (h : Header) (n : ℕ) (i : s .link .message ≡ headed h n) (p : 0 < n) where
+    judge-body : judge s ≡ submitting s h n
+    unfolding judge message pick
+    judge-body = rw (ne-eqb (s .link .phase) Limits.WAITING w, i, ne-eqb n 0 (λ e. omega arith))
 
-  judge-body : length (s .head) ≡ Codes.HEADER-LEN → 0 < s .body → judge s ≡ submitting s
-  unfolding message pick
-  judge-body h b = judge-message ∙ rw (h, ne-eqb (s .body) 0 (λ e. omega arith))
+    wait-body : n < bodyLen h → judge s ≡ hungry
+    unfolding submitting pick
+    wait-body l = judge-body ∙ rw (lt-ltb n (bodyLen h) l)
 
-  wait-body : length (s .head) ≡ Codes.HEADER-LEN → 0 < s .body → s .body < bodyOf (s .head) → judge s ≡ Model.hungry
-  unfolding submitting pick
-  wait-body h b l = judge-body h b ∙ rw (lt-ltb (s .body) (bodyOf (s .head)) l)
+    pub at-body : n ≡ bodyLen h → judge s ≡ submitted s h
+    unfolding submitting pick
+    at-body l = judge-body ∙ rw (le-ltb n (bodyLen h) (omega arith))
 
-  pub at-body : length (s .head) ≡ Codes.HEADER-LEN → 0 < s .body → s .body ≡ bodyOf (s .head) → judge s ≡ submitted s
-  unfolding submitting pick
-  at-body h b l = judge-body h b ∙ rw (le-ltb (s .body) (bodyOf (s .head)) (omega arith))
+-- before the 48th byte, and before the last of a body
+module _ (s : Sess) (w : s .link .phase ≡ Limits.WAITING → ⊥) where
+  pub calm-48 : (m : List ℕ) → s .link .message ≡ partly m → Calm s (Codes.HEADER-LEN - length m)
+  calm-48 m i ys h l =
+      ap (λ (t : Sess). isHungry (judge t)) (grow-in m ys s i (omega arith))
+      ∙ ap isHungry (wait-48 (holding s (partly (m ++ ys))) w (m ++ ys) refl)
 
-pub calm-48 : (s : Sess) → (s .phase ≡ Limits.WAITING → ⊥) → Calm s (Codes.HEADER-LEN - length (s .head))
-calm-48 s w ys h l =
-    let e = grows-in s ys (omega arith) in
-    ap (λ (t : Sess). isHungry (judge t)) e ∙ ap isHungry (wait-48 (holding s (s .head ++ ys) (s .body)) w (rw length-append (omega arith)))
+  pub calm-body : (h : Header) (n : ℕ) → s .link .message ≡ headed h n → Calm s (bodyLen h - n)
+  calm-body h n i ys p l =
+      ap (λ (t : Sess). isHungry (judge t)) (grow-body h n ys s i)
+      ∙ ap isHungry (wait-body (holding s (headed h (n + length ys))) w h (n + length ys) refl (omega arith) (omega arith))
 
--- the header is whole: all that comes is the body's
-pub grows-body : (s : Sess) (xs : List ℕ) → length (s .head) ≡ Codes.HEADER-LEN → stepAll grow s xs ≡ holding s (s .head) (s .body + length xs)
-grows-body s xs h = grow-all zero xs s (omega arith) ∙ rw (append-nil (s .head))
+module _ (s : Sess) (h : Header) where
+  pub header-bad : (f : Fault) → first (headerTestsOf h (s .pend)) ≡ some f → wholeHeader s h ≡ breaks s f
+  unfolding wholeHeader decide
+  header-bad f e = rw e
 
-pub calm-body : (s : Sess) → (s .phase ≡ Limits.WAITING → ⊥) → length (s .head) ≡ Codes.HEADER-LEN → Calm s (bodyOf (s .head) - s .body)
-calm-body s w k ys h l =
-    ap (λ (t : Sess). isHungry (judge t)) (grows-body s ys k)
-    ∙ ap isHungry (wait-body (holding s (s .head) (s .body + length ys)) w k (omega arith) (omega arith))
+  module _ (f : first (headerTestsOf h (s .pend)) ≡ none) where
+    pub header-unlink : (h .command ≡ Codes.CMD-SUBMIT → ⊥)
+        → wholeHeader s h ≡ unlinks (h .transfer .seqnum) (findBy seqnumOf (unlinkSeqnum h) (s .pend))
+    unfolding wholeHeader decide pick
+    header-unlink e = rw (f, ne-eqb (h .command) Codes.CMD-SUBMIT e)
 
-module _ (s : Sess) where
-  pub message-bad : (n : ℕ) → first (messageTests (s .head) (s .pend)) ≡ some n → headed s ≡ breaks s n
-  unfolding headed decide
-  message-bad n f = rw f
+    module _ (e : h .command ≡ Codes.CMD-SUBMIT) where
+      header-submit : wholeHeader s h ≡ submitting s h 0
+      unfolding wholeHeader decide pick
+      header-submit = rw (f, eq-eqb (h .command) Codes.CMD-SUBMIT e)
 
-  pub message-unlink : first (messageTests (s .head) (s .pend)) ≡ none → (commandOf (s .head) ≡ Codes.CMD-SUBMIT → ⊥)
-      → headed s ≡ unlinks (unlinkOf (s .head) .seqnum) (findBy seqnumOf (unlinkOf (s .head) .target) (s .pend))
-  unfolding headed decide pick
-  message-unlink f e = rw (f, ne-eqb (commandOf (s .head)) Codes.CMD-SUBMIT e)
+      pub header-whole : bodyLen h ≡ 0 → wholeHeader s h ≡ submitted s h
+      unfolding submitting pick
+      header-whole z = header-submit ∙ rw (le-ltb 0 (bodyLen h) (omega arith))
 
-  message-submit : first (messageTests (s .head) (s .pend)) ≡ none → commandOf (s .head) ≡ Codes.CMD-SUBMIT → headed s ≡ submitting s
-  unfolding headed decide pick
-  message-submit f e = rw (f, eq-eqb (commandOf (s .head)) Codes.CMD-SUBMIT e)
+      pub header-body : 0 < bodyLen h → wholeHeader s h ≡ hungry
+      unfolding submitting pick
+      header-body l = header-submit ∙ rw (lt-ltb 0 (bodyLen h) l)
 
-  pub message-whole : first (messageTests (s .head) (s .pend)) ≡ none → commandOf (s .head) ≡ Codes.CMD-SUBMIT → bodyOf (s .head) ≡ s .body → headed s ≡ submitted s
-  unfolding submitting pick
-  message-whole f e b = message-submit f e ∙ rw (le-ltb (s .body) (bodyOf (s .head)) (omega arith))
-
-  pub message-body : first (messageTests (s .head) (s .pend)) ≡ none → commandOf (s .head) ≡ Codes.CMD-SUBMIT → s .body < bodyOf (s .head) → headed s ≡ Model.hungry
-  unfolding submitting pick
-  message-body f e b = message-submit f e ∙ rw (lt-ltb (s .body) (bodyOf (s .head)) b)
-
-  pub submit-told : isHungry (submitted s) ≡ false
+  pub submit-said : isHungry (submitted s h) ≡ false
   unfolding submitted
-  submit-told = by-first (λ e. isHungry e ≡ false) (first (submitTests (s .head) s)) (λ _ _. refl) (λ _. refl)
+  submit-said = by-first (λ e. isHungry e ≡ false) (first (submitTestsOf h s)) (λ _ _. refl) (λ _. refl)
 
-pub unlink-told : (q : ℕ) (o : Option Urb) → isHungry (unlinks q o) ≡ false
-unlink-told q none = refl
-unlink-told q (some u) = refl
+pub unlink-said : (q : ℕ) (o : Option Urb) → isHungry (unlinks q o) ≡ false
+unlink-said q none = refl
+unlink-said q (some u) = refl

@@ -1,23 +1,25 @@
 -- A feed in whole parts: bytes that say nothing, up to the one at which something is said.
 use Prim.Native.Nat.{ℕ, zero, suc, _+_, _-_, _≤_, _<_}
 use native.Mathlib.Omega.{arith}
-use native.Mathlib.Nat.{add-zero}
-use mathlib.Core.Path.{_≡_, refl, ap, _∙_}
+use mathlib.Core.Path.{_≡_, refl, sym, ap, _∙_}
 use mathlib.Core.Bool.{true, false}
 use mathlib.Core.List.{List, [], _∷_, _++_}
-use lib.ListN.{length, take, drop-of-length-le}
-use lib.Seq.{take-all, take-at}
+use lib.ListN.{length, take, drop, length-drop, take-append-drop}
+use lib.Seq.{sets, take-at, drop-drop, length-take-le, take-append-add}
 use Rattle.wire.specs.Codes
-use Rattle.model.specs.Model
-use Rattle.model.specs.Model.{Sess, Event, Buffers, isHungry, grow, put, judge, after, tell, replyTo, feedBytes}
-use Rattle.model.specs.Cut.{stepAll, putAll, replied}
-use Rattle.links.specs.Links.{Parts, during}
-use Rattle.events.specs.Answers.{setupBeside, droppedBeside}
-use Rattle.events.specs.Plans.{told}
-use Rattle.feeding.specs.Feeding.{saying, fedFrom, Filled}
-use Rattle.links.specs.declared.Progress.{Progress}
+use Rattle.messages.specs.Messages.{headerOf}
+use Rattle.messages.specs.declared.message.Header.{Header}
+use Rattle.model.specs.State.{Message, partly, headed, Sess}
+use Rattle.model.specs.Answers.{Event, hungry, isHungry}
+use Rattle.model.specs.Judging.{grow, judge}
+use Rattle.model.specs.Acts.{Buffers, put, after, replyTo, writeReply, feedBytes, doneFeed}
+use Rattle.model.specs.Cut.{stepAll, putAll, lent}
 use Rattle.model.proofs.Cutting
-use Rattle.model.proofs.Growth.{holding, grow-all, put-all}
+use Rattle.model.proofs.Growth.{grow-in, grow-whole, grow-body, put-in, put-whole, put-body}
+use Rattle.links.specs.Links.{Parts, during}
+use Rattle.events.specs.Plans.{Result}
+use Rattle.events.proofs.Saying.{resultAt}
+use Rattle.feeding.specs.Feeding.{resultOf}
 
 abbrev grows : Sess → List ℕ → Sess
 grows s xs = stepAll grow s xs
@@ -34,89 +36,150 @@ calm-next s x n c ys h l = c (x ∷ ys) (omega arith) (omega arith)
 
 -- ## Bytes
 
-quiet-run : (xs : List ℕ) (n : ℕ) (s : Sess) → Calm s n → length xs < n → Cutting.Quiet grow put judge after tell Model.hungry isHungry s xs
+abbrev Quiet : Sess → List ℕ → Type 0
+Quiet s xs = Cutting.Quiet grow put judge after writeReply hungry isHungry s xs
+
+quiet-run : (xs : List ℕ) (n : ℕ) (s : Sess) → Calm s n → length xs < n → Quiet s xs
 quiet-run [] n s c l = tt
 quiet-run (x ∷ xs) zero s c l = absurd (omega arith)
 quiet-run (x ∷ xs) (suc n) s c l = (c (x ∷ []) (omega arith) (omega arith), quiet-run xs n (grow s x) (calm-next s x n c) (omega arith))
 
-quiet-last : (xs : List ℕ) (s : Sess) → Calm s (length xs) → isHungry (judge (grows s xs)) ≡ true → Cutting.Quiet grow put judge after tell Model.hungry isHungry s xs
+quiet-last : (xs : List ℕ) (s : Sess) → Calm s (length xs) → isHungry (judge (grows s xs)) ≡ true → Quiet s xs
 quiet-last [] s c h = tt
 quiet-last (x ∷ []) s c h = (h, tt)
-quiet-last (x ∷ (y ∷ xs)) s c h = (c (x ∷ []) (omega arith) (omega arith), quiet-last (y ∷ xs) (grow s x) (calm-next s x (length (y ∷ xs)) c) h)
+quiet-last (x ∷ (y ∷ xs)) s c h =
+    (c (x ∷ []) (omega arith) (omega arith), quiet-last (y ∷ xs) (grow s x) (calm-next s x (length (y ∷ xs)) c) h)
 
 -- the byte at which something is said
 reaches : (xs ys : List ℕ) (b : Buffers) (s : Sess) → 0 < length xs → Calm s (length xs) → isHungry (judge (grows s xs)) ≡ false
-    → feedBytes s b (xs ++ ys) ≡ Cutting.saying grow put judge after tell Model.hungry isHungry s b xs (judge (grows s xs))
+    → feedBytes s b (xs ++ ys) ≡ Cutting.saying grow put judge after writeReply hungry isHungry s b xs (judge (grows s xs))
 reaches [] ys b s h c q = absurd (omega arith)
-reaches (x ∷ []) ys b s h c q = Cutting.ends grow put judge after tell Model.hungry isHungry x ys b s q
+reaches (x ∷ []) ys b s h c q = Cutting.ends grow put judge after writeReply hungry isHungry x ys b s q
 reaches (x ∷ (y ∷ xs)) ys b s h c q =
-    Cutting.goes grow put judge after tell Model.hungry isHungry x ((y ∷ xs) ++ ys) b s (c (x ∷ []) (omega arith) (omega arith))
-    ∙ ap (Cutting.more grow put judge after tell Model.hungry isHungry) (reaches (y ∷ xs) ys (put s x b) (grow s x) (omega arith) (calm-next s x (length (y ∷ xs)) c) q)
+    Cutting.goes grow put judge after writeReply hungry isHungry x ((y ∷ xs) ++ ys) b s (c (x ∷ []) (omega arith) (omega arith))
+    ∙ ap (Cutting.more grow put judge after writeReply hungry isHungry)
+    (reaches (y ∷ xs) ys (put s x b) (grow s x) (omega arith) (calm-next s x (length (y ∷ xs)) c) q)
 
 grows-append : (xs ys : List ℕ) (s : Sess) → grows s (xs ++ ys) ≡ grows (grows s xs) ys
 grows-append [] ys s = refl
 grows-append (x ∷ xs) ys s = grows-append xs ys (grow s x)
 
-take-past : (xs ys : List ℕ) (n : ℕ) → take (length xs + n) (xs ++ ys) ≡ xs ++ take n ys
-take-past [] ys n = let e : 0 + n ≡ n = omega arith in ap (λ (m : ℕ). take m ys) e
-take-past (x ∷ xs) ys n =
-    let e : suc (length xs) + n ≡ suc (length xs + n) = omega arith in
-    ap (λ (m : ℕ). take m (x ∷ (xs ++ ys))) e ∙ ap (λ (l : List ℕ). x ∷ l) (take-past xs ys n)
-
 -- ## The whole answer
+
+-- the same with another count of bytes consumed
+abbrev pub consuming : ℕ → Result → Result
+consuming n r =
+    record {
+      event = r .event;
+      setup = r .setup;
+      dropped = r .dropped;
+      consumed = n;
+      length = r .length;
+      buffers = r .buffers;
+      next = r .next;
+    }
+
+-- what a feed of a session that isn't closed answers and leaves, where so many bytes of the piece were consumed before
+unfoldable pub fedFrom : ℕ → Sess → Buffers → List ℕ → Result
+fedFrom before s b piece = let r = resultOf s piece (doneFeed (feedBytes s b piece)) in consuming (before + r .consumed) r
 
 module _ (at : ℕ) (s : Sess) (b : Buffers) where
   -- all of it says nothing
-  pub waits : (xs : List ℕ) (n : ℕ) → Calm s n → length xs < n → fedFrom at s b xs ≡ told (grows s xs) (puts s xs b) (at + length xs) Model.hungry
-  unfolding fedFrom told tell replyTo
-  waits xs n c l = rw (Cutting.skip-all grow put judge after tell Model.hungry isHungry xs b s (quiet-run xs n s c l))
+  waits : (xs : List ℕ) (n : ℕ) → Calm s n → length xs < n → fedFrom at s b xs ≡ resultAt (grows s xs) (puts s xs b) (at + length xs) hungry
+  unfolding fedFrom resultAt writeReply replyTo
+  waits xs n c l = rw (Cutting.skip-all grow put judge after writeReply hungry isHungry xs b s (quiet-run xs n s c l))
 
   -- the last byte of xs says something
-  pub tells : (xs ys : List ℕ) → 0 < length xs → Calm s (length xs) → isHungry (judge (grows s xs)) ≡ false
-      → fedFrom at s b (xs ++ ys) ≡ told (grows s xs) (puts s xs b) (at + length xs) (judge (grows s xs))
-  unfolding fedFrom told
-  tells xs ys h c q = rw (reaches xs ys b s h c q, take-at xs ys (length xs) refl)
+  says : (xs ys : List ℕ) → 0 < length xs → Calm s (length xs) → isHungry (judge (grows s xs)) ≡ false
+      → fedFrom at s b (xs ++ ys) ≡ resultAt (grows s xs) (puts s xs b) (at + length xs) (judge (grows s xs))
+  unfolding fedFrom resultAt
+  says xs ys h c q = rw (reaches xs ys b s h c q, take-at xs ys (length xs) refl)
 
   -- xs says nothing, and the rest goes on
-  pub goes-on : (xs ys : List ℕ) → Calm s (length xs) → isHungry (judge (grows s xs)) ≡ true → fedFrom at s b (xs ++ ys) ≡ fedFrom (at + length xs) (grows s xs) (puts s xs b) ys
+  goes-on : (xs ys : List ℕ) → Calm s (length xs) → isHungry (judge (grows s xs)) ≡ true
+      → fedFrom at s b (xs ++ ys) ≡ fedFrom (at + length xs) (grows s xs) (puts s xs b) ys
   unfolding fedFrom
   goes-on xs ys c q =
       let r = feedBytes (grows s xs) (puts s xs b) ys in
-      rw (Cutting.skip grow put judge after tell Model.hungry isHungry xs ys b s (quiet-last xs s c q), take-past xs ys (r .used), grows-append xs (take (r .used) ys) s)
-      (let e : at + (length xs + r .used) ≡ at + length xs + r .used = omega arith in
-      λ i. record { event = r .event; setup = setupBeside (r .event); dropped = droppedBeside (r .event); used = e i; written = length (replied (grows s xs) ys r); buffers = r .buffers; next = r .next })
+      rw (
+        Cutting.skip grow put judge after writeReply hungry isHungry xs ys b s (quiet-last xs s c q),
+        take-append-add xs ys (r .consumed),
+        grows-append xs (take (r .consumed) ys) s,
+      )
+      (ap (λ (n : ℕ). consuming n (resultOf (grows s xs) ys (doneFeed r))) (omega arith))
 
--- ## The header
+-- ## A message in progress
 
--- bytes that the header has room for
-pub grows-in : (s : Sess) (xs : List ℕ) → length (s .head) + length xs ≤ Codes.HEADER-LEN → grows s xs ≡ holding s (s .head ++ xs) (s .body)
-grows-in s xs h =
-    let n : length xs ≤ Codes.HEADER-LEN - length (s .head) = omega arith in
-    grow-all (Codes.HEADER-LEN - length (s .head)) xs s refl
-    ∙ rw (take-all (Codes.HEADER-LEN - length (s .head)) xs n, drop-of-length-le xs {i = Codes.HEADER-LEN - length (s .head)} n, add-zero (s .body))
+-- what these bytes make of a message in progress, and of the buffers
+pub record Makes (s : Parts) (m : Message) (xs : List ℕ) (m′ : Message) (to : Buffers → Buffers) : Type 0 where
+  pub grown : grows (during s m) xs ≡ during s m′
+  pub placed : (b : Buffers) → puts (during s m) xs b ≡ to b
 
-pub puts-in : (s : Sess) (xs : List ℕ) (b : Buffers) → length (s .head) + length xs ≤ Codes.HEADER-LEN → puts s xs b ≡ b
-puts-in s xs b h =
-    let n : length xs ≤ Codes.HEADER-LEN - length (s .head) = omega arith in
-    put-all (Codes.HEADER-LEN - length (s .head)) xs b s refl ∙ rw (drop-of-length-le xs {i = Codes.HEADER-LEN - length (s .head)} n)
+-- bytes of a header go to no buffer, those of a body to the work buffer
+abbrev pub unplaced : Buffers → Buffers
+unplaced b = b
 
--- as the code keeps it
-module _ (s : Parts) (p q : Progress) (xs : List ℕ) (f : Filled p xs q) (h : length (take (p .filled) (p .head)) + length xs ≤ Codes.HEADER-LEN) where
-  pub filled-is : grows (during s p) xs ≡ during s q
-  filled-is = grows-in (during s p) xs h ∙ rw (f .0, f .2)
+abbrev pub placedAt : ℕ → List ℕ → Buffers → Buffers
+placedAt n xs b = lent (sets (b .work) n xs) (b .reply)
 
-  module _ (at used : ℕ) (b : Buffers) (u : used ≡ at + length xs) where
-    pub header-waits : (n : ℕ) → Calm (during s p) n → length xs < n → fedFrom at (during s p) b xs ≡ told (during s q) b used Model.hungry
-    header-waits n c l = waits at (during s p) b xs n c l ∙ rw (filled-is, puts-in (during s p) xs b h, u)
+module _ (s : Parts) (bytes xs : List ℕ) where
+  -- a part of the header; what was missing of it
+  pub makes-more : length bytes + length xs < Codes.HEADER-LEN → Makes s (partly bytes) xs (partly (bytes ++ xs)) unplaced
+  makes-more l =
+      let d = during s (partly bytes) in
+      record { grown = grow-in bytes xs d refl l; placed = λ b. put-in bytes xs d b refl l }
 
-    pub header-tells : (ys : List ℕ) (e : Event) → 0 < length xs → Calm (during s p) (length xs) → judge (during s q) ≡ e → isHungry e ≡ false
-        → fedFrom at (during s p) b (xs ++ ys) ≡ told (during s q) b used e
-    header-tells ys e l c j k =
-        let g : judge (grows (during s p) xs) ≡ e = ap judge filled-is ∙ j in
-        tells at (during s p) b xs ys l c (ap isHungry g ∙ k) ∙ rw (g, filled-is, puts-in (during s p) xs b h, u)
+  pub makes-header : 0 < length xs → length bytes + length xs ≡ Codes.HEADER-LEN
+      → Makes s (partly bytes) xs (headed (headerOf (bytes ++ xs)) 0) unplaced
+  makes-header p e =
+      let d = during s (partly bytes) in
+      record { grown = grow-whole bytes xs d refl p e; placed = λ b. put-whole bytes xs d b refl p e }
 
-    pub header-goes-on : (ys : List ℕ) → Calm (during s p) (length xs) → judge (during s q) ≡ Model.hungry
-        → fedFrom at (during s p) b (xs ++ ys) ≡ fedFrom used (during s q) b ys
-    header-goes-on ys c j =
-        goes-on at (during s p) b xs ys c (ap isHungry (ap judge filled-is ∙ j))
-        ∙ rw (filled-is, puts-in (during s p) xs b h, u)
+-- a part of the body
+pub makes-body : (s : Parts) (h : Header) (n : ℕ) (xs : List ℕ) → Makes s (headed h n) xs (headed h (n + length xs)) (placedAt n xs)
+makes-body s h n xs =
+    let d = during s (headed h n) in
+    record { grown = grow-body h n xs d refl; placed = λ b. put-body h n xs d b refl }
+
+-- ## A part of the piece
+
+pub part-length : (piece : List ℕ) (at n : ℕ) → at + n ≤ length piece → length (take n (drop at piece)) ≡ n
+part-length piece at n h = length-take-le n (drop at piece) (rw length-drop (omega arith))
+
+parts : (piece : List ℕ) (at n : ℕ) → take n (drop at piece) ++ drop (at + n) piece ≡ drop at piece
+parts piece at n = ap (λ (ys : List ℕ). take n (drop at piece) ++ ys) (sym (drop-drop n at piece)) ∙ take-append-drop n (drop at piece)
+
+module _ (s : Parts) {m m′ : Message} {to : Buffers → Buffers} (piece : List ℕ) (at : ℕ) (b : Buffers) (n : ℕ) (c : Calm (during s m) n) where
+  -- all that is left says nothing
+  pub part-waits : Makes s m (drop at piece) m′ to → at ≤ length piece → length piece - at < n
+      → fedFrom at (during s m) b (drop at piece) ≡ resultAt (during s m′) (to b) (length piece) hungry
+  part-waits g h l =
+      let e : length (drop at piece) ≡ length piece - at = length-drop at piece in
+      let u : at + length (drop at piece) ≡ length piece = omega arith in
+      waits at (during s m) b (drop at piece) n c (omega arith) ∙ rw (g .grown, g .placed b, u)
+
+  module _ (g : Makes s m (take n (drop at piece)) m′ to) (end : ℕ) (u : at + n ≡ end) (h : end ≤ length piece) where
+    abbrev xs : List ℕ
+    xs = take n (drop at piece)
+
+    count : length xs ≡ n
+    count = part-length piece at n (omega arith)
+
+    split : xs ++ drop end piece ≡ drop at piece
+    split = rw (← u) (parts piece at n)
+
+    -- the n-th byte says something
+    pub part-says : (e : Event) → 0 < n → judge (during s m′) ≡ e → isHungry e ≡ false
+        → fedFrom at (during s m) b (drop at piece) ≡ resultAt (during s m′) (to b) end e
+    part-says e l j q =
+        let k : judge (grows (during s m) xs) ≡ e = ap judge (g .grown) ∙ j in
+        ap (fedFrom at (during s m) b) (sym split)
+        ∙ says at (during s m) b xs (drop end piece) (omega (arith, count)) (rw count c) (ap isHungry k ∙ q)
+        ∙ rw (k, g .grown, g .placed b, count, u)
+
+    -- it says nothing, and the rest goes on
+    pub part-goes-on : judge (during s m′) ≡ hungry → fedFrom at (during s m) b (drop at piece) ≡ fedFrom end (during s m′) (to b) (drop end piece)
+    part-goes-on j =
+        ap (fedFrom at (during s m) b) (sym split)
+        ∙ goes-on at (during s m) b xs (drop end piece) (rw count c) (ap isHungry (ap judge (g .grown) ∙ j))
+        ∙ rw (g .grown, g .placed b, count, u)

@@ -1,76 +1,73 @@
--- A feed: what the plan for the bytes of a piece makes of them.
-use Prim.Native.Nat.{ℕ, _+_, _-_, _≤_, _<_}
+-- A feed is a plan, carried out.
+use Prim.Native.Nat.{ℕ, _+_, _-_, _≤_}
 use mathlib.Core.Path.{_≡_}
-use mathlib.Core.List.{List, _++_}
-use lib.ListN.{length, take, drop}
+use mathlib.Core.List.{List}
+use lib.ListN.{length}
 use Rattle.wire.specs.Codes
 use Rattle.exports.specs.declared.device.Table.{Table}
+use Rattle.pending.specs.Changes.{keeps}
+use Rattle.pending.specs.Looks.{lookFor}
+use Rattle.pending.specs.Pending.{Whole, listOf}
 use Rattle.pending.specs.declared.list.Pending.{Pending}
-use Rattle.verdicts.specs.Limits
-use Rattle.model.specs.Machine.{Fed}
-use Rattle.model.specs.Model.{Sess, Event, Buffers, bodyOf, feedBytes, feedOf}
-use Rattle.model.specs.Cut.{written}
-use Rattle.links.specs.Links.{during, whole, viewOf, Clean, Padded, Tidy}
-use Rattle.events.specs.Answers.{setupBeside, droppedBeside}
-use Rattle.events.specs.Plans.{Said, replyBytes, carried, leaves, Placed}
-use Rattle.links.specs.declared.Link.{Link}
-use Rattle.links.specs.declared.Progress.{Progress}
+use Rattle.limits.specs.Limits
+use Rattle.model.specs.State.{Sess}
+use Rattle.model.specs.Acts.{Buffers, feedOf}
+use Rattle.model.specs.Cut.{Feeding, written}
+use Rattle.links.specs.Links.{whole, viewOfParts, TidyParts}
+use Rattle.links.specs.declared.link.Link.{Link}
+use Rattle.events.specs.Answers.{setupBeside, ticketsOf, droppedBy}
+use Rattle.events.specs.Plans.{Result, replyBytes, requestBytes, partsAfter, carriedWith}
 use Rattle.events.specs.declared.answer.Event.the-variants.{Refused}
-use Rattle.events.specs.declared.plan.Change.the-variants.{Keep}
 use Rattle.events.specs.declared.plan.Plan.{Plan}
+use Rattle.feeding.specs.Asking.{askOf}
+use Rattle.feeding.specs.Planning.{messagePlan, requestPlan}
 
--- All that a feed says and leaves, by the definitions.
-abbrev pub saying : Sess → List ℕ → Fed Sess Event Buffers → Said
-saying s piece r =
+-- All that a feed answers and leaves, by the definitions.
+abbrev pub resultOf : Sess → List ℕ → Feeding → Result
+resultOf s piece r =
     record {
       event = r .event;
       setup = setupBeside (r .event);
-      dropped = droppedBeside (r .event);
-      used = r .used;
-      written = written s piece r;
+      dropped = ticketsOf (droppedBy (r .event));
+      consumed = r .consumed;
+      length = written s piece r;
       buffers = r .buffers;
       next = r .next;
     }
 
-unfoldable pub fedOf : Sess → Buffers → List ℕ → Said
-fedOf s b piece = saying s piece (feedOf s b piece)
+unfoldable pub fedOf : Sess → Buffers → List ℕ → Result
+fedOf s b piece = resultOf s piece (feedOf s b piece)
 
--- So many bytes were consumed before.
-abbrev pub more : ℕ → Said → Said
-more before r =
-    record { event = r .event; setup = r .setup; dropped = r .dropped; used = before + r .used; written = r .written; buffers = r .buffers; next = r .next }
-
--- Bytes of a session that isn't closed, with buffers that are large enough.
-unfoldable pub fedFrom : ℕ → Sess → Buffers → List ℕ → Said
-fedFrom before s b piece = more before (saying s piece (feedBytes s b piece))
-
--- The header in progress has so many bytes more.
-abbrev pub Filled : Progress → List ℕ → Progress → Type 0
-Filled p bytes q =
-    (take (q .filled) (q .head) ≡ take (p .filled) (p .head) ++ bytes)
-    × (q .filled ≡ p .filled + length bytes)
-    × (q .body ≡ p .body)
-    × (length (q .head) ≡ Codes.HEADER-LEN)
-    × (Padded p → Padded q)
-
--- A submit's header is in, and a part of its body.
-abbrev pub Begun : Progress → Type 0
-Begun p = (p .filled ≡ Codes.HEADER-LEN) × (p .body < bodyOf (p .head)) × (bodyOf (p .head) ≤ Limits.MAX-TRANSFER)
-
--- What a plan makes of the bytes of a piece from a place on, with this message in progress.
-pub record Feeds (r : Plan) (t : Table) (k : Link) (l : Pending) (at : ℕ) (p : Progress) (piece : List ℕ) : Type 0 where
-  pub placed : Placed t (r .reply)
+-- What a plan for a piece is to its session, with these bytes as its reply: its data lies in the piece and fits the work buffer, its
+-- reply fits the reply buffer; carried out it is the feed of the definitions; a refusal leaves the very link and list; what it leaves is
+-- tidy.
+pub record Composed (r : Plan) (bytes : List ℕ) (t : Table) (k : Link) (l : Pending) (piece : List ℕ) (b : Buffers) : Type 0 where
   pub inside : r .to ≤ length piece
-  pub room : r .body + (r .to - r .from) ≤ Limits.WORK-LEN
-  pub fed : (b : Buffers) → carried t l r piece b ≡ fedFrom at (during (whole t k l) p) b (drop at piece)
-  pub tidy : Clean l → Padded p → Tidy (leaves t l r)
+  pub fits : r .body + (r .to - r .from) ≤ length (b .work)
+  pub takes : length bytes ≤ Limits.REPLY-LEN → length bytes ≤ length (b .reply)
+  pub fed : carriedWith bytes t l r piece b ≡ fedOf (viewOfParts (whole t k l)) b piece
+  pub same : (n : ℕ) → r .event ≡ Refused n → (r .link ≡ k) × (r .change ≡ keeps (l .count))
+  pub tidy : TidyParts (whole t k l) → TidyParts (partsAfter t l r)
 
--- What a plan makes of a piece, for lent buffers of these lengths. A refusal leaves the very link and list.
-pub record Plans (r : Plan) (t : Table) (k : Link) (l : Pending) (piece : List ℕ) (work reply : ℕ) : Type 0 where
-  pub placed : Placed t (r .reply)
-  pub inside : r .to ≤ length piece
-  pub room : r .body + (r .to - r .from) ≤ work
-  pub takes : length (replyBytes t (r .reply)) ≤ Limits.REPLY-LEN → length (replyBytes t (r .reply)) ≤ reply
-  pub fed : (b : Buffers) → length (b .work) ≡ work → length (b .reply) ≡ reply → carried t l r piece b ≡ fedOf (viewOf (whole t k l)) b piece
-  pub same : (n : ℕ) → r .event ≡ Refused n → (r .link ≡ k) × (r .change ≡ Keep)
-  pub tidy : Tidy (whole t k l) → Tidy (leaves t l r)
+-- As their types have it: the arrays have their lengths, and the count of accepted URBs is a number of 64 bits.
+abbrev pub Arrays : Link → Pending → Type 0
+Arrays k l = (length (k .progress .head) ≡ Codes.HEADER-LEN) × Whole l × (k .counts .accepted ≤ Limits.LAST-TICKET)
+
+-- What a piece asks is looked up once in the pending list, and planned from values.
+abbrev pub feedPlan : Link → Pending → (piece : List ℕ) → (work reply : ℕ) → Plan
+feedPlan k l piece work reply =
+    let a = askOf k piece in
+    messagePlan k (l .count) a (lookFor (listOf l) (a .key)) (length piece) work reply
+
+-- The feed of a message.
+abbrev pub MessageComposed : Type 0
+MessageComposed = (t : Table) (k : Link) (l : Pending) (piece : List ℕ) (b : Buffers) → Arrays k l → (k .phase ≡ Limits.WAITING → ⊥)
+    → let r = feedPlan k l piece (length (b .work)) (length (b .reply)) in
+    Composed r (replyBytes (r .reply)) t k l piece b
+
+-- A request. (The table's array has its length, too.)
+abbrev pub RequestComposed : Type 0
+RequestComposed = (t : Table) (k : Link) (l : Pending) (piece : List ℕ) (b : Buffers) → Arrays k l → length (t .devices) ≡ Limits.MAX-DEVICES
+    → k .phase ≡ Limits.WAITING
+    → let r = requestPlan t k (l .count) piece (length (b .work)) (length (b .reply)) in
+    Composed (r .plan) (requestBytes t (r .reply)) t k l piece b

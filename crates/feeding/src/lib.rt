@@ -1,4 +1,5 @@
-// What a feed will do, decided by value before anything is written: which event the bytes of a piece are, and what goes where.
-// `session` carries it out.
-pub mod feed;
-mod stream;
+// What a feed will do, decided by value before anything is written: what must be looked up for a piece, which event its bytes are,
+// and what goes where. `session` looks up, and carries out.
+pub mod ask;
+pub mod message;
+pub mod request;

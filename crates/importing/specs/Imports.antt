@@ -1,4 +1,4 @@
--- The reply to an import request (01, "Import reply"; source document 000, section 3).
+-- The reply to an import request (PROTOCOL.md, 4.2).
 use Prim.Native.Nat.{ℕ}
 use mathlib.Core.List.{List, _++_}
 use Rattle.wire.specs.Codes.{OP-REP-IMPORT}

@@ -1,17 +1,17 @@
 // The reply to an import request. What it is stands in specs/.
 use exports::device::Device;
+use ground::writing::write;
 use messages::reply::reply_head;
 use records::record::DEVICE_LEN;
 use records::record::write_record;
 use wire::codes::OP_LEN;
 use wire::codes::OP_REP_IMPORT;
-use wire::writing::write;
 ghost use mathlib.Core.Path.{_≡_};
 ghost use Prim.Native.Nat.{_+_};
 ghost use lib.ListN.{length};
 ghost use Rattle.wire.specs.Codes.{OP-LEN};
 ghost use Rattle.records.specs.Records.{DEVICE-LEN};
-ghost use Rattle.wire.specs.Writing.{Wrote};
+ghost use Rattle.ground.specs.Writing.{Wrote};
 ghost use Rattle.importing.specs.Imports.{importReply, importRefusal};
 
 // Writes the reply to an import of the device, if the buffer has room, and answers how many bytes it wrote.

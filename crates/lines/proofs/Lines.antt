@@ -1,13 +1,9 @@
--- A line behind other text, and an unlink's line.
+-- A line behind other text.
 use Prim.Native.Nat.{ℕ}
 use mathlib.Core.Path.{_≡_, refl, ap, _∙_}
 use mathlib.Core.List.{List, [], _∷_, _++_, append-assoc}
-use Rattle.events.specs.Answers.{removed}
-use Rattle.events.specs.declared.answer.Removed.{Removed}
-use Rattle.events.specs.declared.answer.Removed.the-variants.{Ticket, Nothing}
-use Rattle.numerals.specs.Digits.{ascii, decimal, statusText}
-use Rattle.numerals.specs.Texts.{fields, lineOf, line}
-use Rattle.lines.specs.Lines.{linesOf}
+use Rattle.numerals.specs.Digits.{ascii}
+use Rattle.numerals.specs.Texts.{fields, lineOf}
 
 fields-behind : (T w : List ℕ) (fs : List (List ℕ)) → fields (T ++ w) fs ≡ T ++ fields w fs
 fields-behind T w [] = refl
@@ -15,8 +11,3 @@ fields-behind T w (f ∷ fs) = ap (λ (x : List ℕ). fields x fs) (append-assoc
 
 pub line-behind : (T w : List ℕ) (fs : List (List ℕ)) → lineOf (T ++ w) fs ≡ T ++ lineOf w fs
 line-behind T w fs = ap (λ (x : List ℕ). x ++ ascii "\n") (fields-behind T w fs) ∙ append-assoc T (fields w fs) (ascii "\n")
-
--- an unlink's line, whatever it removed
-pub unlink-lines : (seqnum status : ℕ) (r : Removed) → linesOf (removed seqnum status r) ≡ line "unlink" (decimal seqnum ∷ statusText status ∷ [])
-unlink-lines seqnum status (Ticket t) = refl
-unlink-lines seqnum status Nothing = refl

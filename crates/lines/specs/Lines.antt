@@ -1,35 +1,42 @@
--- The lines of `replay` (01, "The replay tape"): tickets, seqnums, lengths and counts in decimal, statuses in signed decimal.
+-- The lines of `replay` (PROTOCOL.md, 10.2): tickets, seqnums, lengths and counts in decimal, statuses in signed decimal.
 use Prim.Native.Nat.{ℕ}
 use mathlib.Core.List.{List, [], _∷_, _++_}
-use Rattle.wire.specs.Fields.{joined}
+use Rattle.ground.specs.Lists.{joined}
 use Rattle.pending.specs.Pending.{ticketOf, seqnumOf}
-use Rattle.model.specs.Model.{Event, Numbers}
+use Rattle.pending.specs.declared.counts.Numbers.{Numbers}
+use Rattle.model.specs.Answers.{Outcome, refused, done, Event, hungry, list, import, submit, answer, unlink, break}
 use Rattle.numerals.specs.Digits.{ascii, decimal, statusText}
 use Rattle.numerals.specs.Texts.{line}
 
-abbrev pub dropped : ℕ → List ℕ
-dropped ticket = line "dropped" (decimal ticket ∷ [])
+-- What any act prints: a refusal its number.
+abbrev pub outcomeLines : {A : Type 0} → (A → List ℕ) → Outcome A → List ℕ
+outcomeLines printed (refused number) = line "refused" (decimal number ∷ [])
+outcomeLines printed (done a) = printed a
 
--- What an act's event prints; `returned` is what an accepted completion prints.
-abbrev pub printed : List ℕ → Event → List ℕ
-printed returned Event.hungry = []
-printed returned Event.list = line "list" []
-printed returned (Event.import status) = line "import" (decimal status ∷ [])
-printed returned (Event.submit u) = line "submit" (decimal (ticketOf u) ∷ decimal (seqnumOf u) ∷ [])
-printed returned (Event.answer seqnum status) = line "answer" (decimal seqnum ∷ statusText status ∷ [])
-printed returned (Event.unlink seqnum status removed) = line "unlink" (decimal seqnum ∷ statusText status ∷ [])
-printed returned (Event.break number tickets) = line "broken" (decimal number ∷ []) ++ joined dropped tickets
-printed returned (Event.refusal number) = line "refused" (decimal number ∷ [])
-printed returned (Event.return wire) = returned
-printed returned (Event.end tickets) = line "closed" [] ++ joined dropped tickets
+-- Of each ticket that was dropped.
+abbrev pub droppedLine : ℕ → List ℕ
+droppedLine ticket = line "dropped" (decimal ticket ∷ [])
 
--- Of a feed and of a closing.
-abbrev pub linesOf : Event → List ℕ
-linesOf e = printed [] e
+-- Of a feed.
+abbrev pub eventLines : Event → List ℕ
+eventLines hungry = []
+eventLines list = line "list" []
+eventLines (import status) = line "import" (decimal status ∷ [])
+eventLines (submit u) = line "submit" (decimal (ticketOf u) ∷ decimal (seqnumOf u) ∷ [])
+eventLines (answer seqnum status) = line "answer" (decimal seqnum ∷ statusText status ∷ [])
+eventLines (unlink seqnum status removed) = line "unlink" (decimal seqnum ∷ statusText status ∷ [])
+eventLines (break fault tickets) = line "broken" (decimal (fault .number) ∷ []) ++ joined droppedLine tickets
+
+abbrev pub feedLines : Outcome Event → List ℕ
+feedLines o = outcomeLines eventLines o
 
 -- Of a completion: with the ticket, the status and the actual length that the device side handed over.
-abbrev pub completionLines : (ticket status actual : ℕ) → Event → List ℕ
-completionLines ticket status actual e = printed (line "return" (decimal ticket ∷ statusText status ∷ decimal actual ∷ [])) e
+abbrev pub completionLines : (ticket status actual : ℕ) → Outcome ℕ → List ℕ
+completionLines ticket status actual o = outcomeLines (λ wire. line "return" (decimal ticket ∷ statusText status ∷ decimal actual ∷ [])) o
+
+-- Of a close.
+abbrev pub closeLines : Outcome (List ℕ) → List ℕ
+closeLines o = outcomeLines (λ tickets. line "closed" [] ++ joined droppedLine tickets) o
 
 -- The last line: accepted, pending, returned, unlinked, dropped.
 abbrev pub endLine : Numbers → List ℕ

@@ -3,7 +3,8 @@ use events::answer::Answer;
 use events::answer::Closing;
 use events::answer::Completion;
 use events::answer::Event;
-use events::answer::Numbers;
+use ground::writing::write;
+use limits::MAX_PENDING;
 use numerals::text::Text;
 use numerals::text::added;
 use numerals::text::begun;
@@ -12,25 +13,23 @@ use numerals::text::ended;
 use numerals::text::put;
 use numerals::text::with_number;
 use numerals::text::with_status;
-use pending::list::MAX_PENDING;
+use pending::counts::Numbers;
 use pending::list::Tickets;
-use wire::writing::write;
 ghost use Prim.Native.Nat.{ℕ, _+_, _≤_};
 ghost use mathlib.Core.List.{List, [], _∷_, _++_};
 ghost use lib.ListN.{length, take};
-ghost use Rattle.wire.specs.Fields.{joined};
-ghost use Rattle.wire.specs.Writing.{Wrote};
-ghost use Rattle.pending.specs.Pending.{MAX-PENDING};
-ghost use Rattle.events.specs.Answers.{eventOf, completionOf, closingOf, numbersAs};
+ghost use Rattle.ground.specs.Lists.{joined};
+ghost use Rattle.ground.specs.Writing.{Wrote};
+ghost use Rattle.limits.specs.Limits.{MAX-PENDING};
+ghost use Rattle.events.specs.Answers.{eventOf, completionOf, closingOf};
 ghost use Rattle.numerals.specs.Digits.{decimal, statusText};
-ghost use Rattle.numerals.specs.Texts.{TEXT-LEN, WORD-LEN, LINE-LEN, DROPPED-LEN, lineOf, line, textOf, Holds};
-ghost use Rattle.lines.specs.Lines.{linesOf, completionLines, endLine, badTapeLine};
-ghost use Rattle.lines.specs.Lines.{dropped as droppedLine};
+ghost use Rattle.numerals.specs.Texts.{TEXT-LEN, WORD-LEN, LINE-LEN, DROPPED-LEN, lineOf, line, textOf, TextHolds};
+ghost use Rattle.lines.specs.Lines.{droppedLine, feedLines, completionLines, closeLines, endLine, badTapeLine};
 
 // A word by itself.
 fn word_line(word: &[u8]) -> Text
     requires { ⌜ length (now word) ≤ WORD-LEN ⌝ }
-    ensures { λ r. ⌜ Holds r (lineOf (now (word .entry)) []) LINE-LEN ⌝ }
+    ensures { λ r. ⌜ TextHolds r (lineOf (now (word .entry)) []) LINE-LEN ⌝ }
 {
     let w = begun(word);
     ended(w)
@@ -39,7 +38,7 @@ fn word_line(word: &[u8]) -> Text
 // A word and a number.
 fn number_line(word: &[u8], n: u64) -> Text
     requires { ⌜ length (now word) ≤ WORD-LEN ⌝ }
-    ensures { λ r. ⌜ Holds r (lineOf (now (word .entry)) (decimal n ∷ [])) LINE-LEN ⌝ }
+    ensures { λ r. ⌜ TextHolds r (lineOf (now (word .entry)) (decimal n ∷ [])) LINE-LEN ⌝ }
 {
     let w = begun(word);
     let t = with_number(w, n);
@@ -49,7 +48,7 @@ fn number_line(word: &[u8], n: u64) -> Text
 // A word, a sequence number and a status.
 fn status_line(word: &[u8], seqnum: u32, status: u32) -> Text
     requires { ⌜ length (now word) ≤ WORD-LEN ⌝ }
-    ensures { λ r. ⌜ Holds r (lineOf (now (word .entry)) (decimal seqnum ∷ statusText status ∷ [])) LINE-LEN ⌝ }
+    ensures { λ r. ⌜ TextHolds r (lineOf (now (word .entry)) (decimal seqnum ∷ statusText status ∷ [])) LINE-LEN ⌝ }
 {
     let w = begun(word);
     let q = with_number(w, seqnum as u64);
@@ -58,7 +57,7 @@ fn status_line(word: &[u8], seqnum: u32, status: u32) -> Text
 }
 
 fn submit_line(ticket: u64, seqnum: u32) -> Text
-    ensures { λ r. ⌜ Holds r (line "submit" (decimal ticket ∷ decimal seqnum ∷ [])) LINE-LEN ⌝ }
+    ensures { λ r. ⌜ TextHolds r (line "submit" (decimal ticket ∷ decimal seqnum ∷ [])) LINE-LEN ⌝ }
 {
     let w = begun(b"submit");
     let t = with_number(w, ticket);
@@ -67,7 +66,7 @@ fn submit_line(ticket: u64, seqnum: u32) -> Text
 }
 
 fn return_line(ticket: u64, status: u32, actual: u32) -> Text
-    ensures { λ r. ⌜ Holds r (line "return" (decimal ticket ∷ statusText status ∷ decimal actual ∷ [])) LINE-LEN ⌝ }
+    ensures { λ r. ⌜ TextHolds r (line "return" (decimal ticket ∷ statusText status ∷ decimal actual ∷ [])) LINE-LEN ⌝ }
 {
     let w = begun(b"return");
     let t = with_number(w, ticket);
@@ -79,7 +78,7 @@ fn return_line(ticket: u64, status: u32, actual: u32) -> Text
 // One more line, of a ticket that was dropped.
 fn with_drop(t: Text, ticket: u64) -> Text
     requires { ⌜ t .len + DROPPED-LEN ≤ TEXT-LEN ⌝ }
-    ensures { λ r. ⌜ Holds r (textOf t ++ droppedLine ticket) (t .len + DROPPED-LEN) ⌝ }
+    ensures { λ r. ⌜ TextHolds r (textOf t ++ droppedLine ticket) (t .len + DROPPED-LEN) ⌝ }
 {
     let w = added(t, b"dropped");
     let n = with_number(w, ticket);
@@ -89,7 +88,7 @@ fn with_drop(t: Text, ticket: u64) -> Text
 // The lines of the first n tickets, behind a line.
 fn with_drops(t: Text, tickets: [u64; MAX_PENDING], n: usize) -> Text
     requires { ⌜ (n ≤ MAX-PENDING) × (t .len ≤ LINE-LEN) ⌝ }
-    ensures { λ r. ⌜ Holds r (textOf t ++ joined droppedLine (take n tickets)) TEXT-LEN ⌝ }
+    ensures { λ r. ⌜ TextHolds r (textOf t ++ joined droppedLine (take n tickets)) TEXT-LEN ⌝ }
 {
     let mut text = t;
     let mut i = 0;
@@ -103,7 +102,7 @@ fn with_drops(t: Text, tickets: [u64; MAX_PENDING], n: usize) -> Text
 // The lines of the tickets that a break or a closing dropped. (A count past the array takes in the whole array.)
 fn with_dropped(t: Text, dropped: Tickets) -> Text
     requires { ⌜ t .len ≤ LINE-LEN ⌝ }
-    ensures { λ r. ⌜ Holds r (textOf t ++ joined droppedLine (take (dropped .count) (dropped .tickets))) TEXT-LEN ⌝ }
+    ensures { λ r. ⌜ TextHolds r (textOf t ++ joined droppedLine (take (dropped .count) (dropped .tickets))) TEXT-LEN ⌝ }
 {
     let tickets = dropped.tickets;
     let count = dropped.count;
@@ -114,17 +113,17 @@ fn with_dropped(t: Text, dropped: Tickets) -> Text
 }
 
 fn event_text(event: Event, dropped: Tickets) -> Text
-    ensures { λ r. ⌜ ((setup : List ℕ) → Holds r (linesOf (eventOf event setup dropped)) TEXT-LEN) ⌝ }
+    ensures { λ r. ⌜ ((setup : List ℕ) → TextHolds r (feedLines (eventOf event setup dropped)) TEXT-LEN) ⌝ }
 {
     match event {
         Event::Hungry => empty(),
         Event::List => word_line(b"list"),
         Event::Import(status) => number_line(b"import", status as u64),
-        Event::Submit(u) => submit_line(u.ticket, u.seqnum),
+        Event::Submit(ticket, u) => submit_line(ticket, u.seqnum),
         Event::Answer(seqnum, status) => status_line(b"answer", seqnum, status),
         Event::Unlink(seqnum, status, _) => status_line(b"unlink", seqnum, status),
-        Event::Break(n) => {
-            let t = number_line(b"broken", n as u64);
+        Event::Break(fault) => {
+            let t = number_line(b"broken", fault.number as u64);
             with_dropped(t, dropped)
         }
         Event::Refused(n) => number_line(b"refused", n as u64),
@@ -132,11 +131,10 @@ fn event_text(event: Event, dropped: Tickets) -> Text
 }
 
 // Writes the lines of a feed's answer, if the buffer has room, and answers how many bytes it wrote.
-pub fn feed_lines(a: Answer, out: &mut [u8]) -> usize
-    ensures { λ n. ⌜ Wrote (linesOf (eventOf (a .event) (a .setup) (a .dropped))) (now (out .entry)) (now (out .exit)) n ⌝ }
+pub fn feed_lines(a: Answer, dropped: Tickets, out: &mut [u8]) -> usize
+    ensures { λ n. ⌜ Wrote (feedLines (eventOf (a .event) (a .setup) dropped)) (now (out .entry)) (now (out .exit)) n ⌝ }
 {
     let event = a.event;
-    let dropped = a.dropped;
     let t = event_text(event, dropped);
     put(t, out)
 }
@@ -165,7 +163,7 @@ pub fn complete_line(
 
 // The same of a closing.
 pub fn close_lines(answer: Closing, dropped: Tickets, out: &mut [u8]) -> usize
-    ensures { λ n. ⌜ Wrote (linesOf (closingOf answer dropped)) (now (out .entry)) (now (out .exit)) n ⌝ }
+    ensures { λ n. ⌜ Wrote (closeLines (closingOf answer dropped)) (now (out .entry)) (now (out .exit)) n ⌝ }
 {
     match answer {
         Closing::End => {
@@ -182,7 +180,7 @@ pub fn close_lines(answer: Closing, dropped: Tickets, out: &mut [u8]) -> usize
 
 // The last line, with the session's five numbers.
 pub fn end_line(n: Numbers, out: &mut [u8]) -> usize
-    ensures { λ r. ⌜ Wrote (endLine (numbersAs n)) (now (out .entry)) (now (out .exit)) r ⌝ }
+    ensures { λ r. ⌜ Wrote (endLine n) (now (out .entry)) (now (out .exit)) r ⌝ }
 {
     let w = begun(b"end");
     let a = with_number(w, n.accepted);

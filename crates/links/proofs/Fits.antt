@@ -1,37 +1,32 @@
 -- When the parts of a session fit together.
 use Prim.Native.Nat.{ℕ, _+_, _-_, _≤_, _<_}
 use native.Mathlib.Omega.{arith}
-use mathlib.Core.Path.{_≡_, refl, sym, subst, _∙_}
+use mathlib.Core.Path.{_≡_, refl, sym, _∙_}
 use mathlib.Core.Bool.{Bool, true, false, cond, not, _&&_, _||_, true≢false}
 use lib.Dec.{eqb, leb, ltb}
 use borrow.Author.Tests.{eqb-true, eqb-false, eq-eqb, ne-eqb, le-leb, lt-leb, leb-true, lt-ltb, le-ltb, ltb-true}
-use mathlib.Core.List.{List}
-use lib.ListN.{length-take}
+use lib.ListN.{length, length-take}
 use Rattle.wire.specs.Codes
-use Rattle.messages.specs.Messages.{submitOf}
-use Rattle.messages.specs.declared.message.Submit.{Submit}
-use Rattle.pending.specs.Pending.{MAX-PENDING, ticketOf, listOf, placeBy}
+use Rattle.messages.specs.Messages.{bodyLen}
+use Rattle.pending.specs.Pending.{listOf}
+use Rattle.pending.specs.declared.counts.Counts.{Counts}
 use Rattle.pending.specs.declared.list.Pending.{Pending}
-use Rattle.pending.specs.declared.list.Place.the-variants.{At}
-use Rattle.pending.proofs.Finding.{place-find}
-use Rattle.verdicts.specs.Limits
-use Rattle.model.specs.Model.{bodyOf}
-use Rattle.links.specs.Links.{Parts, countsFit, waitingFits, attachedFits, progressFits, phaseOf, Attached}
-use Rattle.links.specs.declared.Counts.{Counts}
-use Rattle.links.specs.declared.Progress.{Progress}
-use Rattle.links.specs.declared.Link.{Link}
+use Rattle.limits.specs.Limits
+use Rattle.links.specs.Links.{Parts, countsFit, attachedFits, progressFits, phaseOf, plus, Attached}
+use Rattle.links.specs.declared.link.Progress.{Progress}
+use Rattle.links.specs.declared.link.Link.{Link}
 
 -- ## The counts
 
 module _ (c : Counts) (n : ℕ) where
-  pub odd-counts : n ≤ MAX-PENDING → (c .accepted ≡ n + c .returned + c .unlinked + c .dropped → ⊥) → countsFit c n ≡ false
-  odd-counts l h = rw (le-leb n MAX-PENDING l, ne-eqb (c .accepted) (n + c .returned + c .unlinked + c .dropped) h)
+  pub odd-counts : n ≤ Limits.MAX-PENDING → (c .accepted ≡ n + c .returned + c .unlinked + c .dropped → ⊥) → countsFit c n ≡ false
+  odd-counts l h = rw (le-leb n Limits.MAX-PENDING l, ne-eqb (c .accepted) (n + c .returned + c .unlinked + c .dropped) h)
 
-  pub even-counts : n ≤ MAX-PENDING → c .accepted ≡ n + c .returned + c .unlinked + c .dropped → countsFit c n ≡ true
-  even-counts l h = rw (le-leb n MAX-PENDING l, eq-eqb (c .accepted) (n + c .returned + c .unlinked + c .dropped) h)
+  pub even-counts : n ≤ Limits.MAX-PENDING → c .accepted ≡ n + c .returned + c .unlinked + c .dropped → countsFit c n ≡ true
+  even-counts l h = rw (le-leb n Limits.MAX-PENDING l, eq-eqb (c .accepted) (n + c .returned + c .unlinked + c .dropped) h)
 
   -- the last of them is what is left of the others
-  pub last-count : (d : ℕ) → n ≤ MAX-PENDING → c .accepted ≡ n + c .returned + c .unlinked + d → eqb d (c .dropped) ≡ countsFit c n
+  pub last-count : (d : ℕ) → n ≤ Limits.MAX-PENDING → c .accepted ≡ n + c .returned + c .unlinked + d → eqb d (c .dropped) ≡ countsFit c n
   last-count d l h = at (eqb d (c .dropped)) refl
     where
       at : (b : Bool) → eqb d (c .dropped) ≡ b → b ≡ countsFit c n
@@ -42,31 +37,18 @@ both : (a b : Bool) → a && b ≡ true → (a ≡ true) × (b ≡ true)
 both true b h = (refl, h)
 both false b h = absurd (true≢false (sym h))
 
-pub counts-known : (c : Counts) (n : ℕ) → countsFit c n ≡ true → (n ≤ MAX-PENDING) × (c .accepted ≡ n + c .returned + c .unlinked + c .dropped)
+pub counts-known : (c : Counts) (n : ℕ) → countsFit c n ≡ true → (n ≤ Limits.MAX-PENDING) × (c .accepted ≡ n + c .returned + c .unlinked + c .dropped)
 counts-known c n h =
-    let b = both (leb n MAX-PENDING) (eqb (c .accepted) (n + c .returned + c .unlinked + c .dropped)) h in
-    (leb-true n MAX-PENDING (b .0), eqb-true _ _ (b .1))
+    let b = both (leb n Limits.MAX-PENDING) (eqb (c .accepted) (n + c .returned + c .unlinked + c .dropped)) h in
+    (leb-true n Limits.MAX-PENDING (b .0), eqb-true _ _ (b .1))
 
 -- ## The message in progress
 
--- how many bytes follow the header, by the submit that was read from it
-pub body-out : (m : List ℕ) (u : Submit) → u ≡ submitOf m → u .direction ≡ Codes.DIR-OUT → u .length ≡ bodyOf m
-unfolding bodyOf
-body-out m u e h = subst (λ (v : Submit). u .length ≡ cond (eqb (v .direction) Codes.DIR-OUT) (v .length) 0) e (rw (eq-eqb (u .direction) Codes.DIR-OUT h))
-
-pub body-in : (m : List ℕ) (u : Submit) → u ≡ submitOf m → (u .direction ≡ Codes.DIR-OUT → ⊥) → 0 ≡ bodyOf m
-unfolding bodyOf
-body-in m u e h = subst (λ (v : Submit). 0 ≡ cond (eqb (v .direction) Codes.DIR-OUT) (v .length) 0) e (rw (ne-eqb (u .direction) Codes.DIR-OUT h))
-
 module _ (p : Progress) where
-  pub in-header : p .filled < Codes.HEADER-LEN → eqb (p .body) 0 ≡ attachedFits p
-  in-header h = rw (lt-ltb (p .filled) Codes.HEADER-LEN h, ne-eqb (p .filled) Codes.HEADER-LEN (λ e. omega arith)) (at (eqb (p .body) 0))
-    where
-      at : (b : Bool) → b ≡ (true && b) || false
-      at true = refl
-      at false = refl
+  pub in-header : p .filled < Codes.HEADER-LEN → attachedFits p ≡ true
+  in-header h = rw (lt-ltb (p .filled) Codes.HEADER-LEN h)
 
-  module _ (n : ℕ) (e : n ≡ bodyOf (p .head)) (h : p .filled ≡ Codes.HEADER-LEN) where
+  module _ (n : ℕ) (e : n ≡ bodyLen (p .header)) (h : p .filled ≡ Codes.HEADER-LEN) where
     pub long-body : Limits.MAX-TRANSFER < n → false ≡ attachedFits p
     long-body l = rw (← e, h, lt-leb n Limits.MAX-TRANSFER l)
 
@@ -83,7 +65,8 @@ module _ (k : Link) (n : ℕ) (counts progress : Bool) where
   unfolding phaseOf
   phase-is p q = rw (p, q)
 
-  pub phase-fit : counts ≡ countsFit (k .counts) n → not counts ≡ false → progress ≡ progressFits (k .phase) (k .progress) → not progress ≡ false → k .phase ≡ phaseOf k n
+  pub phase-fit : counts ≡ countsFit (k .counts) n → not counts ≡ false → progress ≡ progressFits (k .phase) (k .progress) → not progress ≡ false
+      → k .phase ≡ phaseOf k n
   phase-fit p h q z = sym (at counts progress h z) ∙ phase-is p q
     where
       at : (a b : Bool) → not a ≡ false → not b ≡ false → phased a b ≡ k .phase
@@ -114,39 +97,55 @@ either : (a b : Bool) → a || b ≡ true → (a ≡ false → b ≡ true)
 either true b h k = absurd (true≢false k)
 either false b h k = h
 
-pub waiting-known : (phase : ℕ) (p : Progress) → progressFits phase p ≡ true → phase ≡ Limits.WAITING → (p .filled < Codes.OP-LEN + Codes.BUSID-LEN) × (p .body ≡ 0)
+pub waiting-known : (phase : ℕ) (p : Progress) → progressFits phase p ≡ true → phase ≡ Limits.WAITING → p .filled < Codes.OP-LEN + Codes.BUSID-LEN
 waiting-known phase p h w =
-    let f : waitingFits p ≡ true = rw w at h in
-    let b = both (ltb (p .filled) (Codes.OP-LEN + Codes.BUSID-LEN)) (eqb (p .body) 0) f in
-    (ltb-true (p .filled) (Codes.OP-LEN + Codes.BUSID-LEN) (b .0), eqb-true (p .body) 0 (b .1))
+    let f : ltb (p .filled) (Codes.OP-LEN + Codes.BUSID-LEN) ≡ true = rw w at h in
+    ltb-true (p .filled) (Codes.OP-LEN + Codes.BUSID-LEN) f
 
-pub attached-known : (phase : ℕ) (p : Progress) → progressFits phase p ≡ true → (phase ≡ Limits.WAITING → ⊥) → (phase ≡ Limits.ATTACHED) × (attachedFits p ≡ true)
+pub attached-known : (phase : ℕ) (p : Progress) → progressFits phase p ≡ true → (phase ≡ Limits.WAITING → ⊥)
+    → (phase ≡ Limits.ATTACHED) × (attachedFits p ≡ true)
 attached-known phase p h w =
     let f : eqb phase Limits.ATTACHED && attachedFits p ≡ true = rw (ne-eqb phase Limits.WAITING w) at h in
     let b = both (eqb phase Limits.ATTACHED) (attachedFits p) f in
     (eqb-true phase Limits.ATTACHED (b .0), b .1)
 
-module _ (p : Progress) (h : attachedFits p ≡ true) where
-  pub header-known : p .filled < Codes.HEADER-LEN → p .body ≡ 0
-  header-known l = eqb-true (p .body) 0 (in-header p l ∙ h)
+pub body-known : (p : Progress) → attachedFits p ≡ true → Codes.HEADER-LEN ≤ p .filled
+    → (p .filled ≡ Codes.HEADER-LEN) × (p .body < bodyLen (p .header)) × (bodyLen (p .header) ≤ Limits.MAX-TRANSFER)
+body-known p h l =
+    let n = bodyLen (p .header) in
+    let rest = leb n Limits.MAX-TRANSFER && ltb (p .body) n in
+    let z : ltb (p .filled) Codes.HEADER-LEN ≡ false = le-ltb (p .filled) Codes.HEADER-LEN l in
+    let a = both (eqb (p .filled) Codes.HEADER-LEN) rest (either (ltb (p .filled) Codes.HEADER-LEN) (eqb (p .filled) Codes.HEADER-LEN && rest) h z) in
+    let c = both (leb n Limits.MAX-TRANSFER) (ltb (p .body) n) (a .1) in
+    (eqb-true (p .filled) Codes.HEADER-LEN (a .0), ltb-true (p .body) n (c .1), leb-true n Limits.MAX-TRANSFER (c .0))
 
-  pub body-known : Codes.HEADER-LEN ≤ p .filled → (p .filled ≡ Codes.HEADER-LEN) × (p .body < bodyOf (p .head)) × (bodyOf (p .head) ≤ Limits.MAX-TRANSFER)
-  body-known l =
-      let first = ltb (p .filled) Codes.HEADER-LEN && eqb (p .body) 0 in
-      let rest = leb (bodyOf (p .head)) Limits.MAX-TRANSFER && ltb (p .body) (bodyOf (p .head)) in
-      let z : first ≡ false = rw (le-ltb (p .filled) Codes.HEADER-LEN l) in
-      let a = both (eqb (p .filled) Codes.HEADER-LEN) rest (either first (eqb (p .filled) Codes.HEADER-LEN && rest) h z) in
-      let c = both (leb (bodyOf (p .head)) Limits.MAX-TRANSFER) (ltb (p .body) (bodyOf (p .head))) (a .1) in
-      (eqb-true (p .filled) Codes.HEADER-LEN (a .0), ltb-true (p .body) (bodyOf (p .head)) (c .1), leb-true (bodyOf (p .head)) Limits.MAX-TRANSFER (c .0))
+-- ## A message that goes on
+
+pub fits-waiting : (phase : ℕ) (q : Progress) → phase ≡ Limits.WAITING → q .filled < Codes.OP-LEN + Codes.BUSID-LEN → progressFits phase q ≡ true
+fits-waiting phase q w h = rw (w, lt-ltb (q .filled) (Codes.OP-LEN + Codes.BUSID-LEN) h)
+
+pub fits-header : (phase : ℕ) (q : Progress) → phase ≡ Limits.ATTACHED → q .filled < Codes.HEADER-LEN → progressFits phase q ≡ true
+fits-header phase q w h = rw (w, lt-ltb (q .filled) Codes.HEADER-LEN h)
+
+pub fits-body : (phase : ℕ) (q : Progress) → phase ≡ Limits.ATTACHED → q .filled ≡ Codes.HEADER-LEN → bodyLen (q .header) ≤ Limits.MAX-TRANSFER
+    → q .body < bodyLen (q .header) → progressFits phase q ≡ true
+fits-body phase q w h l b = rw (w, h, le-leb (bodyLen (q .header)) Limits.MAX-TRANSFER l, lt-ltb (q .body) (bodyLen (q .header)) b)
+
+-- ## Sums
+
+-- of counts that fit together every sum is there
+pub plus-fits : (count more limit : ℕ) → limit ≤ Limits.LAST-TICKET → count + more ≤ limit → plus count more ≡ count + more
+unfolding plus
+plus-fits count more limit l h = rw (le-leb (count + more) Limits.LAST-TICKET (omega arith))
 
 -- an attached session has no more pending than there is room for
-pub few : (s : Parts) → Attached s → s .pending .count ≤ MAX-PENDING
+pub few : (s : Parts) → Attached s → s .pending .count ≤ Limits.MAX-PENDING
 few s h = counts-known (s .link .counts) (s .pending .count) (h .0) .0
 
 -- what is pending isn't ended yet
-pub one-pending : (c : Counts) (list : Pending) (t i : ℕ) → countsFit c (list .count) ≡ true → placeBy ticketOf t (listOf list) ≡ At i → (c .returned < c .accepted) × (c .unlinked < c .accepted)
-one-pending c list t i h e =
+pub one-pending : (c : Counts) (list : Pending) (i : ℕ) → countsFit c (list .count) ≡ true → i < length (listOf list)
+    → (c .returned < c .accepted) × (c .unlinked < c .accepted)
+one-pending c list i h e =
     let n = counts-known c (list .count) h in
-    let k = place-find ticketOf t (listOf list) i e .1 in
     let m = length-take (list .count) (list .urbs) in
-    (omega (arith, n .1, k, m), omega (arith, n .1, k, m))
+    (omega (arith, n .1, e, m), omega (arith, n .1, e, m))

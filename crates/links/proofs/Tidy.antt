@@ -1,39 +1,61 @@
 -- What the view hides.
-use Prim.Native.Nat.{ℕ, _-_}
+use Prim.Native.Nat.{ℕ, _-_, _≤_, _<_}
 use native.Mathlib.Omega.{arith}
 use mathlib.Core.Path.{_≡_, refl, sym, ap, subst, _∙_}
+use mathlib.Core.Bool.{Bool, true, false}
 use mathlib.Core.List.{List, _++_}
-use lib.ListN.{length, take, replicate, take-append-drop, drop-of-length-le}
+use borrow.Author.Tests.{ltb-true, ltb-false}
+use lib.Dec.{ltb}
+use lib.ListN.{length, take, replicate, take-append-drop}
 use lib.Seq.{length-take-le}
 use Rattle.wire.specs.Codes
+use Rattle.messages.specs.Messages.{blankHeader}
+use Rattle.messages.specs.declared.message.Header.{Header}
 use Rattle.pending.proofs.Laws.{sound-view}
-use Rattle.model.specs.Model.{Sess}
-use Rattle.links.specs.Links.{noProgress, resting, Padded, OneStruct}
-use Rattle.links.specs.declared.Counts.{Counts}
-use Rattle.links.specs.declared.Progress.{Progress}
-use Rattle.links.specs.declared.Link.{Link}
+use Rattle.pending.specs.declared.counts.Counts.{Counts}
+use Rattle.model.specs.State.{Message, partly, headed, Sess}
+use Rattle.links.specs.Links.{messageOf, noProgress, bodied, resting, Padded, OneStruct}
+use Rattle.links.specs.declared.link.Progress.{Progress}
+use Rattle.links.specs.declared.link.Link.{Link}
+use Rattle.links.proofs.Views.{message-partly, message-headed}
 
 -- ## A header
 
--- no message in progress, and a whole header
+-- no message in progress, and a header that was read
 pub none-padded : Padded noProgress
-none-padded = record { size = refl; fits = omega arith; free = refl }
+none-padded = record { size = refl; fits = omega arith; grows = λ l. (refl, refl, refl); read = λ e. refl }
+
+pub read-padded : (h : Header) (body : ℕ) → Padded (bodied h body)
+read-padded h body = record { size = refl; fits = omega arith; grows = λ l. absurd (omega arith); read = λ e. refl }
 
 pub rest-padded : (k : Link) (phase devid : ℕ) (c : Counts) → k ≡ resting phase devid c → Padded (k .progress)
 rest-padded k phase devid c e = subst (λ (z : Link). Padded (z .progress)) (sym e) none-padded
 
-pub full-padded : (p : Progress) → length (p .head) ≡ Codes.HEADER-LEN → p .filled ≡ Codes.HEADER-LEN → Padded p
-full-padded p l e = record { size = l; fits = omega arith; free = drop-of-length-le (p .head) {i = p .filled} (omega arith) ∙ rw e }
+-- the progress that a message is
+abbrev progressOf : Message → Progress
+progressOf (partly bytes) =
+    record { head = bytes ++ replicate (Codes.HEADER-LEN - length bytes) 0; filled = length bytes; header = blankHeader; body = 0 }
+progressOf (headed h body) = bodied h body
 
--- the filled places say the whole header
-abbrev padding : List ℕ → ℕ → Progress
-padding filled body = record { head = filled ++ replicate (Codes.HEADER-LEN - length filled) 0; filled = length filled; body = body }
+padded-is : (p : Progress) → Padded p → p ≡ progressOf (messageOf p)
+padded-is p h = at (ltb (p .filled) Codes.HEADER-LEN) refl
+  where
+    growing : p .filled < Codes.HEADER-LEN → p ≡ progressOf (partly (take (p .filled) (p .head)))
+    growing l =
+        let g = h .grows l in
+        let n : length (take (p .filled) (p .head)) ≡ p .filled = length-take-le (p .filled) (p .head) (omega (arith, h .size, h .fits)) in
+        let e : p .head ≡ take (p .filled) (p .head) ++ replicate (Codes.HEADER-LEN - length (take (p .filled) (p .head))) 0 =
+        rw (n, ← g .0) (sym (take-append-drop (p .filled) (p .head))) in
+        λ i. record { head = e i; filled = sym n i; header = g .1 i; body = g .2 i }
 
-padded-is : (p : Progress) → Padded p → p ≡ padding (take (p .filled) (p .head)) (p .body)
-padded-is p h =
-    let n : length (take (p .filled) (p .head)) ≡ p .filled = length-take-le (p .filled) (p .head) (omega (arith, h .size, h .fits)) in
-    let e : p .head ≡ take (p .filled) (p .head) ++ replicate (Codes.HEADER-LEN - length (take (p .filled) (p .head))) 0 = rw (n, ← h .free) (sym (take-append-drop (p .filled) (p .head))) in
-    rw (← e, n)
+    whole : Codes.HEADER-LEN ≤ p .filled → p ≡ bodied (p .header) (p .body)
+    whole l =
+        let n : p .filled ≡ Codes.HEADER-LEN = omega (arith, h .fits) in
+        λ i. record { head = h .read n i; filled = n i; header = p .header; body = p .body }
+
+    at : (b : Bool) → ltb (p .filled) Codes.HEADER-LEN ≡ b → p ≡ progressOf (messageOf p)
+    at true e = let l = ltb-true (p .filled) Codes.HEADER-LEN e in growing l ∙ ap progressOf (sym (message-partly p l))
+    at false e = let l = ltb-false (p .filled) Codes.HEADER-LEN e in whole l ∙ ap progressOf (sym (message-headed p l))
 
 -- ## The struct
 
@@ -41,17 +63,6 @@ pub one-struct : OneStruct
 one-struct s t a b v =
     let l : s .pending ≡ t .pending = sound-view (s .pending) (t .pending) (a .list .0) (b .list .0) (a .list .1) (b .list .1) (ap (λ (x : Sess). x .pend) v) in
     let p : s .link .progress ≡ t .link .progress =
-    padded-is (s .link .progress) (a .head) ∙ (λ i. padding (v i .head) (v i .body)) ∙ sym (padded-is (t .link .progress) (b .head)) in
-    let w : s .link .phase ≡ t .link .phase = a .phase ∙ ap (λ (x : Sess). x .phase) v ∙ sym (b .phase) in
-    λ i.
-    record {
-      table = v i .table;
-      link =
-          record {
-            phase = w i;
-            devid = v i .devid;
-            progress = p i;
-            counts = record { accepted = v i .accepted; returned = v i .returned; unlinked = v i .unlinked; dropped = v i .dropped };
-          };
-      pending = l i;
-    }
+    padded-is (s .link .progress) (a .head) ∙ (λ i. progressOf (v i .link .message)) ∙ sym (padded-is (t .link .progress) (b .head)) in
+    let w : s .link .phase ≡ t .link .phase = a .phase ∙ ap (λ (x : Sess). x .link .phase) v ∙ sym (b .phase) in
+    λ i. record { table = v i .table; link = record { phase = w i; devid = v i .link .devid; progress = p i; counts = v i .link .counts }; pending = l i }

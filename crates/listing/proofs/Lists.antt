@@ -7,27 +7,32 @@ use native.Mathlib.Omega.{arith}
 use borrow.Author.Tests.{le-leb, lt-leb, leb-true}
 use lib.ListN.{length, drop, length-append}
 use lib.Seq.{length-take-le}
-use Rattle.wire.specs.Fields.{joined}
-use Rattle.wire.specs.Writing.{Wrote}
-use Rattle.wire.proofs.Parts.{wrote-over, joined-length}
+use Rattle.ground.specs.Lists.{joined, every}
+use Rattle.ground.specs.Writing.{Wrote}
+use Rattle.ground.proofs.Parts.{wrote-over}
+use Rattle.ground.proofs.Lists.{joined-length}
 use Rattle.exports.specs.declared.device.Device.{Device}
 use Rattle.exports.specs.declared.device.Table.{Table}
-use Rattle.exports.specs.Devices.{MAX-DEVICES, MAX-INTERFACES, devicesOf, interfacesOf}
-use Rattle.exports.specs.Rules.{every}
+use Rattle.limits.specs.Limits.{MAX-DEVICES, MAX-INTERFACES}
+use Rattle.exports.specs.Devices.{devicesOf, interfacesOf}
 use Rattle.records.specs.Records.{INTERFACE-LEN, Shaped, deviceRecord, interfaceRecord}
 use Rattle.records.proofs.Records.{record-length}
-use Rattle.listing.specs.Lists.{LIST-HEAD-LEN, few, listable, listHead, listed, listedSize, listReply}
+use Rattle.listing.specs.Lists.{LIST-HEAD-LEN, few, listable, listHead, listedDevice, listedSize, listReply}
 
 -- ## A device in a list
 
 pub few-known : (d : Device) → few d ≡ true → d .bNumInterfaces ≤ MAX-INTERFACES
 few-known d h = let k = leb-true (d .bNumInterfaces) _ h in omega (arith, k)
 
-pub listed-length : (d : Device) → Shaped d → d .bNumInterfaces ≤ MAX-INTERFACES → length (listed d) ≡ listedSize d
-unfolding listed
+pub listed-length : (d : Device) → Shaped d → d .bNumInterfaces ≤ MAX-INTERFACES → length (listedDevice d) ≡ listedSize d
+unfolding listedDevice
 listed-length d s h =
     length-append (deviceRecord d) (joined interfaceRecord (interfacesOf d))
-    ∙ rw (record-length d s, joined-length interfaceRecord INTERFACE-LEN (λ _. refl) (interfacesOf d), length-take-le (d .bNumInterfaces) (d .interfaces) (omega (arith, s .2)))
+    ∙ rw (
+      record-length d s,
+      joined-length interfaceRecord INTERFACE-LEN (λ _. refl) (interfacesOf d),
+      length-take-le (d .bNumInterfaces) (d .interfaces) (omega (arith, s .2)),
+    )
 
 -- ## A test that every element passes, and what is left of a list
 
@@ -56,12 +61,12 @@ module _ (t : Table) (h : t .count ≤ MAX-DEVICES) where
   pub listable-by : (b : Bool) → every few (devicesOf t) ≡ b → listable t ≡ b
   listable-by b e = rw (le-leb (t .count) MAX-DEVICES h, e)
 
-  pub list-is : every few (devicesOf t) ≡ true → listReply t ≡ listHead (t .count) ++ joined listed (devicesOf t)
+  pub list-is : every few (devicesOf t) ≡ true → listReply t ≡ listHead (t .count) ++ joined listedDevice (devicesOf t)
   unfolding listReply
   list-is e = rw (listable-by true e)
 
-  pub list-length : every few (devicesOf t) ≡ true → length (listReply t) ≡ LIST-HEAD-LEN + length (joined listed (devicesOf t))
-  list-length e = ap length (list-is e) ∙ length-append (listHead (t .count)) (joined listed (devicesOf t))
+  pub list-length : every few (devicesOf t) ≡ true → length (listReply t) ≡ LIST-HEAD-LEN + length (joined listedDevice (devicesOf t))
+  list-length e = ap length (list-is e) ∙ length-append (listHead (t .count)) (joined listedDevice (devicesOf t))
 
 -- a length that is 0 where there is none
 module _ (b : Bool) (n x : ℕ) (e : x ≡ cond b (LIST-HEAD-LEN + n) 0) where

@@ -1,8 +1,9 @@
 -- A table that keeps the rules has the whole list reply.
 use Prim.Native.Nat.{_≤_}
 use Rattle.exports.specs.declared.device.Device.{Device}
-use Rattle.exports.specs.Devices.{MAX-INTERFACES, noDevice, devicesOf}
-use Rattle.exports.proofs.Tests.{leb-iff, every-iff}
+use Rattle.limits.specs.Limits.{MAX-INTERFACES}
+use Rattle.exports.specs.Devices.{noDevice, devicesOf}
+use Rattle.ground.proofs.Tests.{leb-iff, every-iff}
 use Rattle.tables.proofs.Good.{as-many}
 use Rattle.listing.specs.Lists.{few, ListsAll}
 use Rattle.listing.proofs.Lists.{list-is}

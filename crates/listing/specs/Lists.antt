@@ -1,4 +1,4 @@
--- The reply to a list request (01, "List reply"; source document 000, section 3).
+-- The reply to a list request (PROTOCOL.md, 4.2).
 use Prim.Native.Nat.{ℕ, _+_, _*_, _≤_}
 use mathlib.Core.Path.{_≡_}
 use mathlib.Core.List.{List, [], _∷_, _++_, map}
@@ -6,10 +6,11 @@ use mathlib.Core.Bool.{Bool, true, _&&_, cond}
 use lib.ListN.{length, take}
 use lib.Dec.{leb}
 use Rattle.wire.specs.Codes.{OP-REP-DEVLIST}
-use Rattle.wire.specs.Fields.{u32, pack, joined}
+use Rattle.wire.specs.Fields.{u32, pack}
+use Rattle.ground.specs.Lists.{joined, every}
 use Rattle.messages.specs.Messages.{replyHead}
-use Rattle.exports.specs.Devices.{MAX-DEVICES, MAX-INTERFACES, devicesOf, interfacesOf}
-use Rattle.exports.specs.Rules.{every}
+use Rattle.limits.specs.Limits.{MAX-DEVICES, MAX-INTERFACES}
+use Rattle.exports.specs.Devices.{devicesOf, interfacesOf}
 use Rattle.exports.specs.declared.device.Device.{Device}
 use Rattle.exports.specs.declared.device.Table.{Table}
 use Rattle.tables.specs.Tables.{Rules}
@@ -20,8 +21,8 @@ abbrev pub LIST-HEAD-LEN : ℕ
 LIST-HEAD-LEN = 12
 
 -- A device in a list: its record and its interfaces.
-unfoldable pub listed : Device → List ℕ
-listed d = deviceRecord d ++ joined interfaceRecord (interfacesOf d)
+unfoldable pub listedDevice : Device → List ℕ
+listedDevice d = deviceRecord d ++ joined interfaceRecord (interfacesOf d)
 
 -- ## The list reply
 
@@ -38,13 +39,13 @@ listable t = leb (t .count) MAX-DEVICES && every few (devicesOf t)
 
 -- The list reply: each device straight after the last. No other table has one.
 unfoldable pub listReply : Table → List ℕ
-listReply t = cond (listable t) (listHead (t .count) ++ joined listed (devicesOf t)) []
+listReply t = cond (listable t) (listHead (t .count) ++ joined listedDevice (devicesOf t)) []
 
 -- A table that keeps the rules has the whole reply: the head with its count of devices, then every device with its interfaces.
 -- (Each array of the code has all its places, so the count is how many devices there are.)
 abbrev pub ListsAll : Type 0
 ListsAll = (t : Table) → Rules t
-    → (listReply t ≡ listHead (t .count) ++ joined listed (devicesOf t))
+    → (listReply t ≡ listHead (t .count) ++ joined listedDevice (devicesOf t))
     × (length (t .devices) ≡ MAX-DEVICES → length (devicesOf t) ≡ t .count)
 
 -- ## How long they are
@@ -53,9 +54,9 @@ ListsAll = (t : Table) → Rules t
 abbrev pub listedSize : Device → ℕ
 listedSize d = DEVICE-LEN + d .bNumInterfaces * INTERFACE-LEN
 
-abbrev pub sizeOf : List Device → ℕ
-sizeOf [] = 0
-sizeOf (d ∷ ds) = listedSize d + sizeOf ds
+abbrev pub listSize : List Device → ℕ
+listSize [] = 0
+listSize (d ∷ ds) = listedSize d + listSize ds
 
 -- The most that a device and a whole list reply can be.
 abbrev pub MAX-LISTED : ℕ
@@ -69,4 +70,4 @@ pub record Listing (devices : List Device) (interfaces : List (List (List ℕ)))
   pub count : n ≤ MAX-DEVICES
   pub bytes : interfaces ≡ map recordsOf devices
   pub each : every few (take n devices) ≡ true
-  pub room : LIST-HEAD-LEN + length (joined listed (take n devices)) ≤ length reply
+  pub room : LIST-HEAD-LEN + length (joined listedDevice (take n devices)) ≤ length reply

@@ -1,14 +1,14 @@
 // The interfaces of a device, written behind its record.
-use exports::device::MAX_INTERFACES;
+use ground::writing::write;
+use limits::MAX_INTERFACES;
 use records::interface::INTERFACE_LEN;
-use wire::writing::write;
 ghost use mathlib.Core.Path.{_≡_};
 ghost use mathlib.Core.List.{[]};
 ghost use Prim.Native.Nat.{_*_, _≤_, _<_};
 ghost use lib.ListN.{length, getD, take};
-ghost use Rattle.wire.specs.Fields.{joined};
-ghost use Rattle.wire.specs.Writing.{over};
-ghost use Rattle.exports.specs.Devices.{MAX-INTERFACES};
+ghost use Rattle.ground.specs.Lists.{joined};
+ghost use Rattle.ground.specs.Writing.{over};
+ghost use Rattle.limits.specs.Limits.{MAX-INTERFACES};
 ghost use Rattle.records.specs.Records.{INTERFACE-LEN};
 
 // One of a device's interfaces. (A call's result is known to have its type's length, an element's copy isn't.)

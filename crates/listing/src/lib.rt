@@ -3,9 +3,10 @@ mod interfaces;
 
 use crate::interfaces::write_interfaces;
 use exports::device::Device;
-use exports::device::MAX_DEVICES;
-use exports::device::MAX_INTERFACES;
 use exports::device::Table;
+use ground::writing::write;
+use limits::MAX_DEVICES;
+use limits::MAX_INTERFACES;
 use messages::reply::reply_head;
 use records::interface::INTERFACE_LEN;
 use records::interface::table_interfaces;
@@ -14,27 +15,25 @@ use records::record::write_record;
 use wire::codes::OP_LEN;
 use wire::codes::OP_REP_DEVLIST;
 use wire::number::bytes4;
-use wire::writing::write;
 ghost use mathlib.Core.Path.{_≡_};
 ghost use mathlib.Core.Bool.{cond};
 ghost use mathlib.Core.List.{_++_};
 ghost use Prim.Native.Nat.{_+_, _≤_};
 ghost use lib.ListN.{length, take};
-ghost use Rattle.wire.specs.Fields.{joined};
-ghost use Rattle.wire.specs.Writing.{over, Wrote};
-ghost use Rattle.exports.specs.Devices.{MAX-DEVICES, MAX-INTERFACES};
-ghost use Rattle.exports.specs.Rules.{every};
+ghost use Rattle.ground.specs.Lists.{joined, every};
+ghost use Rattle.ground.specs.Writing.{over, Wrote};
+ghost use Rattle.limits.specs.Limits.{MAX-DEVICES, MAX-INTERFACES};
 ghost use Rattle.records.specs.Records.{recordsOf};
-ghost use Rattle.listing.specs.Lists.{LIST-HEAD-LEN, MAX-LISTED, MAX-LIST, listed, few, listHead, Listing, listReply};
+ghost use Rattle.listing.specs.Lists.{LIST-HEAD-LEN, MAX-LISTED, MAX-LIST, listedDevice, few, listHead, Listing, listReply};
 
 // The bytes of a list reply before its first device.
 const LIST_HEAD_LEN: usize = OP_LEN + 4;
 
 // Writes a device as a list shows it at the front of a buffer that has room, and answers how many bytes it wrote.
 fn write_device(out: &mut [u8], d: Device, records: [[u8; INTERFACE_LEN]; MAX_INTERFACES]) -> usize
-    requires { ⌜ (d .bNumInterfaces ≤ MAX-INTERFACES) × (records ≡ recordsOf d) × (length (listed d) ≤ length (now out)) ⌝ }
-    ensures { λ r. ⌜ r ≡ length (listed d) ⌝ }
-    ensures { λ _. ⌜ now (out .exit) ≡ over (listed d) (now (out .entry)) ⌝ }
+    requires { ⌜ (d .bNumInterfaces ≤ MAX-INTERFACES) × (records ≡ recordsOf d) × (length (listedDevice d) ≤ length (now out)) ⌝ }
+    ensures { λ r. ⌜ r ≡ length (listedDevice d) ⌝ }
+    ensures { λ _. ⌜ now (out .exit) ≡ over (listedDevice d) (now (out .entry)) ⌝ }
 {
     let n = d.bNumInterfaces as usize;
     write_record(out, d);
@@ -45,7 +44,7 @@ fn write_device(out: &mut [u8], d: Device, records: [[u8; INTERFACE_LEN]; MAX_IN
 // The length of a device in a list.
 fn listed_len(d: Device) -> usize
     requires { ⌜ d .bNumInterfaces ≤ MAX-INTERFACES ⌝ }
-    ensures { λ r. ⌜ (r ≡ length (listed d)) × (r ≤ MAX-LISTED) ⌝ }
+    ensures { λ r. ⌜ (r ≡ length (listedDevice d)) × (r ≤ MAX-LISTED) ⌝ }
 {
     let n = d.bNumInterfaces as usize;
     DEVICE_LEN + n * INTERFACE_LEN
@@ -54,7 +53,7 @@ fn listed_len(d: Device) -> usize
 // The length of the list reply of n devices, or 0 if one of them has too many interfaces.
 fn list_len(devices: [Device; MAX_DEVICES], n: usize) -> usize
     requires { ⌜ n ≤ MAX-DEVICES ⌝ }
-    ensures { λ r. ⌜ r ≡ cond (every few (take n devices)) (LIST-HEAD-LEN + length (joined listed (take n devices))) 0 ⌝ }
+    ensures { λ r. ⌜ r ≡ cond (every few (take n devices)) (LIST-HEAD-LEN + length (joined listedDevice (take n devices))) 0 ⌝ }
     ensures { λ r. ⌜ r ≤ MAX-LIST ⌝ }
 {
     let mut len: usize = LIST_HEAD_LEN;
@@ -103,8 +102,8 @@ fn write_list(
     n: usize,
 ) -> usize
     requires { ⌜ Listing devices interfaces n (now reply) ⌝ }
-    ensures { λ r. ⌜ r ≡ length (listHead n ++ joined listed (take n devices)) ⌝ }
-    ensures { λ _. ⌜ now (reply .exit) ≡ over (listHead n ++ joined listed (take n devices)) (now (reply .entry)) ⌝ }
+    ensures { λ r. ⌜ r ≡ length (listHead n ++ joined listedDevice (take n devices)) ⌝ }
+    ensures { λ _. ⌜ now (reply .exit) ≡ over (listHead n ++ joined listedDevice (take n devices)) (now (reply .entry)) ⌝ }
 {
     let head = list_head(n);
     write(reply, &head);

@@ -1,12 +1,14 @@
--- What each message is made of (source document 000, section 3; 01, "Bytes on the wire").
+-- What each message is made of (PROTOCOL.md, 4).
 use Prim.Native.Nat.{ℕ}
+use mathlib.Core.Bool.{cond}
 use mathlib.Core.List.{List, [], _∷_}
-use lib.ListN.{take, drop}
+use lib.Dec.{eqb}
+use lib.ListN.{take, drop, replicate}
 use Rattle.wire.specs.Codes
 use Rattle.wire.specs.Fields.{u16, u32, pack, field}
 use Rattle.messages.specs.declared.request.Request.{Request}
-use Rattle.messages.specs.declared.message.Submit.{Submit}
-use Rattle.messages.specs.declared.message.Unlink.{Unlink}
+use Rattle.messages.specs.declared.message.Header.{Header}
+use Rattle.messages.specs.declared.message.Transfer.{Transfer}
 use Rattle.messages.specs.declared.reply.RetSubmit.{RetSubmit}
 use Rattle.messages.specs.declared.reply.RetUnlink.{RetUnlink}
 
@@ -22,30 +24,47 @@ busidOf m = take Codes.BUSID-LEN (drop Codes.OP-LEN m)
 
 -- ## Read: the messages of an attached session
 
-abbrev pub commandOf : List ℕ → ℕ
-commandOf m = field 4 Codes.COMMAND-AT m
-
 abbrev pub setupOf : List ℕ → List ℕ
 setupOf m = take Codes.SETUP-LEN (drop Codes.SETUP-AT m)
 
-abbrev pub submitOf : List ℕ → Submit
-submitOf m =
+abbrev pub transferOf : List ℕ → Transfer
+transferOf m =
     record {
       seqnum = field 4 Codes.SEQNUM-AT m;
-      devid = field 4 Codes.DEVID-AT m;
       direction = field 4 Codes.DIRECTION-AT m;
       ep = field 4 Codes.EP-AT m;
       flags = field 4 Codes.FLAGS-AT m;
       length = field 4 Codes.LENGTH-AT m;
-      frame = field 4 Codes.FRAME-AT m;
+      start = field 4 Codes.START-AT m;
       packets = field 4 Codes.PACKETS-AT m;
       interval = field 4 Codes.INTERVAL-AT m;
-      setup = setupOf m;
     }
 
--- An unlink's devid, direction, ep and last 24 bytes are ignored.
-abbrev pub unlinkOf : List ℕ → Unlink
-unlinkOf m = record { seqnum = field 4 Codes.SEQNUM-AT m; target = field 4 Codes.UNLINK-SEQNUM-AT m }
+abbrev pub headerOf : List ℕ → Header
+headerOf m = record { command = field 4 Codes.COMMAND-AT m; devid = field 4 Codes.DEVID-AT m; transfer = transferOf m; setup = setupOf m }
+
+-- What stands in the place of a header while none is read: zeros.
+abbrev pub blankHeader : Header
+blankHeader =
+    record {
+      command = 0;
+      devid = 0;
+      transfer = record { seqnum = 0; direction = 0; ep = 0; flags = 0; length = 0; start = 0; packets = 0; interval = 0 };
+      setup = replicate Codes.SETUP-LEN 0;
+    }
+
+-- How many bytes follow the 48 of a submit: its data, where it is OUT.
+abbrev pub bodyLen : Header → ℕ
+bodyLen h = cond (eqb (h .transfer .direction) Codes.DIR-OUT) (h .transfer .length) 0
+
+-- The seqnum of the submit that an unlink names stands where a submit has its flags; an unlink's devid, direction, ep and last
+-- 24 bytes are ignored.
+abbrev pub unlinkSeqnum : Header → ℕ
+unlinkSeqnum h = h .transfer .flags
+
+-- The same by the message's bytes alone.
+abbrev pub unlinkSeqnumOf : List ℕ → ℕ
+unlinkSeqnumOf m = field 4 Codes.UNLINK-SEQNUM-AT m
 
 -- ## Written: replies to requests
 
@@ -60,7 +79,7 @@ abbrev pub retSubmit : RetSubmit → List ℕ
 retSubmit r =
     pack
     (u32 Codes.RET-SUBMIT ∷ u32 (r .seqnum) ∷ u32 0 ∷ u32 0 ∷ u32 0 ∷
-    u32 (r .status) ∷ u32 (r .actual) ∷ u32 (r .frame) ∷ u32 (r .packets) ∷ u32 0 ∷ u32 0 ∷ u32 0 ∷ [])
+    u32 (r .status) ∷ u32 (r .actual) ∷ u32 (r .start) ∷ u32 (r .packets) ∷ u32 0 ∷ u32 0 ∷ u32 0 ∷ [])
 
 -- USBIP_RET_UNLINK: the unlink's own seqnum, three zeros, the status, 24 zeros.
 abbrev pub retUnlink : RetUnlink → List ℕ

@@ -1,4 +1,5 @@
 // Replies: the head of a reply to a request, and the headers USBIP_RET_SUBMIT and USBIP_RET_UNLINK.
+use ground::writing::write;
 use wire::codes::HEADER_LEN;
 use wire::codes::OP_LEN;
 use wire::codes::RET_SUBMIT;
@@ -7,19 +8,18 @@ use wire::codes::VERSION;
 use wire::codes::WORDS;
 use wire::number::bytes2;
 use wire::number::bytes4;
-use wire::writing::write;
 ghost use mathlib.Core.Path.{_≡_};
 ghost use Rattle.wire.specs.BigEndian.{bytesOf};
-ghost use Rattle.wire.specs.Fields.{joined};
+ghost use Rattle.ground.specs.Lists.{joined};
 ghost use Rattle.messages.specs.Messages.{replyHead, retSubmit, retUnlink};
-ghost use Rattle.wire.specs.Writing.{Wrote};
+ghost use Rattle.ground.specs.Writing.{Wrote};
 
-// The fields of a USBIP_RET_SUBMIT that aren't 0: actual is actual_length, frame start_frame, packets number_of_packets.
+// The fields of a USBIP_RET_SUBMIT that aren't 0: actual is actual_length, start start_frame, packets number_of_packets.
 pub struct RetSubmit {
     pub seqnum: u32,
     pub status: u32,
     pub actual: u32,
-    pub frame: u32,
+    pub start: u32,
     pub packets: u32,
 }
 
@@ -72,7 +72,7 @@ pub fn write_ret_submit(out: &mut [u8], r: RetSubmit) -> usize
         0,
         r.status,
         r.actual,
-        r.frame,
+        r.start,
         r.packets,
         0,
         0,

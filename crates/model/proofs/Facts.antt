@@ -8,17 +8,16 @@ use mathlib.Core.Bool.{Bool, true, false, cond}
 use mathlib.Core.Option.{Option, none, some}
 use lib.ListN.{length, length-append}
 use lib.Dec.{eqb}
-use borrow.Author.Tests.{eqb-true, eqb-false, eq-eqb, ne-eqb}
-use Rattle.pending.specs.Pending.{ticketOf, tickets, findBy, without, withoutFirst, Above, Rising as Increasing}
-use Rattle.pending.proofs.Without.{first-only}
-use Rattle.model.specs.Model.{End, returned, unlinked, dropped, same}
-use Rattle.model.specs.Book.{Fate, pending, over, Item, item, settled, mark, markAll, ifPending, pendingOf, isEnd, count}
-use Rattle.model.specs.Claims.{Tickets, Apart, Distinct, Kept, Grown}
+use borrow.Author.Tests.{eqb-true, eq-eqb, ne-eqb}
+use Rattle.pending.specs.Pending.{ticketOf, tickets, findBy, without, withoutFirst}
+use Rattle.ground.specs.Lists.{Above, Rising}
+use Rattle.pending.proofs.Finding.{find-none}
+use Rattle.pending.proofs.Without.{without-absent}
+use Rattle.ground.proofs.Cases.{not-some}
+use Rattle.model.specs.State.{End, returned, unlinked, dropped}
+use Rattle.model.specs.Book.{Fate, pending, over, Item, item, settled, mark, markAll, ifPending, pendingOf, sameEnd, isEnd, count}
+use Rattle.model.specs.Claims.{Counted, Apart, Distinct, Kept, Grown}
 use Rattle.pending.specs.declared.urb.Urb.{Urb}
-
--- Two constructors that an injection tells apart.
-pub differ : {A : Type 0} → _≡_ {A = ℕ} 0 1 → A
-differ z = absurd (omega arith)
 
 -- ## A new item
 
@@ -37,9 +36,9 @@ count-snoc e (i ∷ is) u = cc (count-snoc e is u)
 pub length-snoc : (is : List Item) (u : Urb) → length (is ++ (item u pending ∷ [])) ≡ suc (length is)
 length-snoc is u = simp (length-append) (omega arith)
 
-pub tickets-snoc : (k : ℕ) (is : List Item) (u : Urb) → Tickets k is → ticketOf u ≡ k + length is → Tickets k (is ++ (item u pending ∷ []))
-tickets-snoc k [] u h e = (omega arith, tt)
-tickets-snoc k (i ∷ is) u h e = (h .0, tickets-snoc (suc k) is u (h .1) (omega arith))
+pub counted-snoc : (k : ℕ) (is : List Item) (u : Urb) → Counted k is → ticketOf u ≡ k + length is → Counted k (is ++ (item u pending ∷ []))
+counted-snoc k [] u h e = (omega arith, tt)
+counted-snoc k (i ∷ is) u h e = (h .0, counted-snoc (suc k) is u (h .1) (omega arith))
 
 -- ## A fate
 
@@ -62,11 +61,11 @@ settled-urb : (c : Bool) (e : End) (i : Item) → (settled c e i) .urb ≡ i .ur
 settled-urb true e i = refl
 settled-urb false e i = refl
 
-pub tickets-mark : (k t : ℕ) (e : End) (is : List Item) → Tickets k is → Tickets k (mark t e is)
-tickets-mark k t e [] h = tt
-tickets-mark k t e (i ∷ is) h = (rw settled-urb (h .0), tickets-mark (suc k) t e is (h .1))
+pub counted-mark : (k t : ℕ) (e : End) (is : List Item) → Counted k is → Counted k (mark t e is)
+counted-mark k t e [] h = tt
+counted-mark k t e (i ∷ is) h = (rw settled-urb (h .0), counted-mark (suc k) t e is (h .1))
 
-pub mark-fresh : (k t : ℕ) (e : End) (is : List Item) → t < k → Tickets k is → mark t e is ≡ is
+pub mark-fresh : (k t : ℕ) (e : End) (is : List Item) → t < k → Counted k is → mark t e is ≡ is
 mark-fresh k t e [] l h = refl
 mark-fresh k t e (i ∷ is) l h = cc (ne-eqb (ticketOf (i .urb)) t (omega (arith, h .0)), mark-fresh (suc k) t e is (omega arith) (h .1))
 
@@ -76,21 +75,20 @@ sum [] = refl
 sum (i ∷ is) = at (i .fate) (sum is)
   where
     at : (f : Fate) → length is ≡ length (pendingOf is) + count returned is + count unlinked is + count dropped is
-        → suc (length is) ≡ length (ifPending f (i .urb) (pendingOf is)) + (isEnd returned f + count returned is) + (isEnd unlinked f + count unlinked is) + (isEnd dropped f + count dropped is)
+        → suc (length is)
+        ≡ length (ifPending f (i .urb) (pendingOf is)) + (isEnd returned f + count returned is) + (isEnd unlinked f + count unlinked is)
+        + (isEnd dropped f + count dropped is)
     at pending h = omega arith
     at (over returned) h = omega arith
     at (over unlinked) h = omega arith
     at (over dropped) h = omega arith
-
-pub clash : {A : Type 0} {u : Urb} → none ≡ some u → A
-clash {u = u} h = absurd (let z : _≡_ {A = ℕ} 0 1 = cc in omega arith)
 
 -- no pending item has a ticket below the first
 find-fresh-at : (f : Fate) (v : Urb) (t : ℕ) (us : List Urb) → t < ticketOf v → findBy ticketOf t us ≡ none → findBy ticketOf t (ifPending f v us) ≡ none
 find-fresh-at pending v t us l h = cc (ne-eqb (ticketOf v) t (omega arith))
 find-fresh-at (over e) v t us l h = h
 
-find-fresh : (k t : ℕ) (is : List Item) → t < k → Tickets k is → findBy ticketOf t (pendingOf is) ≡ none
+find-fresh : (k t : ℕ) (is : List Item) → t < k → Counted k is → findBy ticketOf t (pendingOf is) ≡ none
 find-fresh k t [] l h = refl
 find-fresh k t (i ∷ is) l h = find-fresh-at (i .fate) (i .urb) t (pendingOf is) (omega (arith, h .0)) (find-fresh (suc k) t is (omega arith) (h .1))
 
@@ -125,12 +123,12 @@ ended-stays (i ∷ is) (j ∷ js) u e g m =
 -- ## A pending item gets its fate: one more with that fate, and no other item changes
 
 abbrev pub Marked : ℕ → End → List Item → Type 0
-Marked t e is = ((d : End) → count d (mark t e is) ≡ same e d + count d is) × Grown is (mark t e is)
+Marked t e is = ((d : End) → count d (mark t e is) ≡ sameEnd e d + count d is) × Grown is (mark t e is)
 
 mark-one-at : (k t : ℕ) (e : End) (v : Urb) (is : List Item) (u : Urb) (f : Fate) (c : Bool)
-    → ticketOf v ≡ k → Tickets (suc k) is → eqb (ticketOf v) t ≡ c → findBy ticketOf t (ifPending f v (pendingOf is)) ≡ some u
+    → ticketOf v ≡ k → Counted (suc k) is → eqb (ticketOf v) t ≡ c → findBy ticketOf t (ifPending f v (pendingOf is)) ≡ some u
     → (findBy ticketOf t (pendingOf is) ≡ some u → Marked t e is)
-    → ((d : End) → isEnd d ((settled c e (item v f)) .fate) + count d (mark t e is) ≡ same e d + (isEnd d f + count d is))
+    → ((d : End) → isEnd d ((settled c e (item v f)) .fate) + count d (mark t e is) ≡ sameEnd e d + (isEnd d f + count d is))
     × (Kept (item v f) (settled c e (item v f)) × Grown is (mark t e is))
 mark-one-at k t e v is u pending true a h q p r =
     let m = mark-fresh (suc k) t e is (omega (arith, eqb-true (ticketOf v) t q)) h in
@@ -138,13 +136,13 @@ mark-one-at k t e v is u pending true a h q p r =
 mark-one-at k t e v is u pending false a h q p r =
     let w = r (cc) in
     (λ d. omega (arith, w .0 d), ((refl, λ e p. p), w .1))
-mark-one-at k t e v is u (over g) true a h q p r = clash (sym (find-fresh (suc k) t is (omega (arith, eqb-true (ticketOf v) t q)) h) ∙ p)
+mark-one-at k t e v is u (over g) true a h q p r = not-some (sym (find-fresh (suc k) t is (omega (arith, eqb-true (ticketOf v) t q)) h) ∙ p)
 mark-one-at k t e v is u (over g) false a h q p r =
     let w = r p in
     (λ d. omega (arith, w .0 d), ((refl, λ e p. p), w .1))
 
-pub mark-one : (k t : ℕ) (e : End) (is : List Item) (u : Urb) → Tickets k is → findBy ticketOf t (pendingOf is) ≡ some u → Marked t e is
-mark-one k t e [] u h p = clash p
+pub mark-one : (k t : ℕ) (e : End) (is : List Item) (u : Urb) → Counted k is → findBy ticketOf t (pendingOf is) ≡ some u → Marked t e is
+mark-one k t e [] u h p = not-some p
 mark-one k t e (i ∷ is) u h p = mark-one-at k t e (i .urb) is u (i .fate) (eqb (ticketOf (i .urb)) t) (h .0) (h .1) refl p (mark-one (suc k) t e is u (h .1))
 
 -- the item of a ticket has its end once that is marked
@@ -180,23 +178,10 @@ mem-from u (i ∷ is) m =
     (λ t. mem-past u (i .urb) (i .fate) (pendingOf is) (mem-from u is t))
     (List·Memᴰ·cases-cons m)
 
--- what is found has the key and is among them
-pub find-key : (key : Urb → ℕ) (k : ℕ) (us : List Urb) (u : Urb) → findBy key k us ≡ some u → (key u ≡ k) × List·Memᴰ u us
-find-key key k [] u h = clash h
-find-key key k (v ∷ us) u h = at (eqb (key v) k) refl h (find-key key k us u)
-  where
-    at : (c : Bool) → eqb (key v) k ≡ c → cond c (some v) (findBy key k us) ≡ some u → (findBy key k us ≡ some u → (key u ≡ k) × List·Memᴰ u us) → (key u ≡ k) × List·Memᴰ u (v ∷ us)
-    at true e p r = let q : u ≡ v = cc in (ap key q ∙ eqb-true (key v) k e, List·Memᴰ·head q)
-    at false e p r = (r p .0, List·Memᴰ·tail (r p .1))
-
--- none is found: none has the key
-pub find-none : (key : Urb → ℕ) (k : ℕ) (us : List Urb) → findBy key k us ≡ none → Apart k (map key us)
-find-none key k [] h = tt
-find-none key k (v ∷ us) h = at (eqb (key v) k) refl h (find-none key k us)
-  where
-    at : (c : Bool) → eqb (key v) k ≡ c → cond c (some v) (findBy key k us) ≡ none → (findBy key k us ≡ none → Apart k (map key us)) → Apart k (map key (v ∷ us))
-    at true e p r = clash (sym p)
-    at false e p r = ((λ q. eqb-false (key v) k e (sym q)), r p)
+-- a key that none has, as a list of the keys says it
+pub apart-of : (key : Urb → ℕ) (k : ℕ) (us : List Urb) → ((u : Urb) → List·Memᴰ u us → key u ≡ k → ⊥) → Apart k (map key us)
+apart-of key k [] n = tt
+apart-of key k (v ∷ us) n = ((λ e. n v (List·Memᴰ·head refl) (sym e)), apart-of key k us (λ u m. n u (List·Memᴰ·tail m)))
 
 pub apart-mem : (key : Urb → ℕ) (k : ℕ) (us : List Urb) (u : Urb) → Apart k (map key us) → List·Memᴰ u us → key u ≡ k → ⊥
 apart-mem key k [] u a m e = List·Memᴰ·not-nil m
@@ -217,7 +202,7 @@ pub mem-found : (key : Urb → ℕ) (us : List Urb) (u : Urb) → List·Memᴰ u
 mem-found key us u m = at (findBy key (key u) us) refl
   where
     at : (o : Option Urb) → findBy key (key u) us ≡ o → (v : Urb) × (findBy key (key u) us ≡ some v)
-    at none h = absurd (apart-mem key (key u) us u (find-none key (key u) us h) m refl)
+    at none h = absurd (find-none key (key u) us .0 h u m refl)
     at (some v) h = (v, h)
 
 -- a key that none has, of fewer and of one more
@@ -257,58 +242,63 @@ pub distinct-snoc : (key : Urb → ℕ) (us : List Urb) (u : Urb) → Distinct (
 distinct-snoc key [] u h a = (tt, tt)
 distinct-snoc key (v ∷ us) u h a = (apart-snoc key (key v) us u (h .0) (λ e. a .0 (sym e)), distinct-snoc key us u (h .1) (a .1))
 
--- ## All pending items dropped
+-- ## Tickets are counted, so they rise
 
-abbrev Rising : ℕ → List Urb → Type 0
-Rising k [] = Unit
-Rising k (u ∷ us) = (k ≤ ticketOf u) × Rising (suc (ticketOf u)) us
+above-below : (s t : ℕ) (xs : List ℕ) → s ≤ t → Above t xs → Above s xs
+above-below s t [] l h = tt
+above-below s t (x ∷ xs) l h = (omega (arith, h .0), h .1)
 
-rising-from : (k m : ℕ) (us : List Urb) → k ≤ m → Rising m us → Rising k us
-rising-from k m [] l h = tt
-rising-from k m (u ∷ us) l h = (omega (arith, h .0), h .1)
+above-at : (f : Fate) (k : ℕ) (u : Urb) (us : List Urb) → ticketOf u ≡ suc k → Above (suc k) (tickets us) → Above k (tickets (ifPending f u us))
+above-at pending k u us h r = (omega arith, rw h r)
+above-at (over e) k u us h r = above-below k (suc k) (tickets us) (omega arith) r
 
-rising-at : (f : Fate) (k : ℕ) (u : Urb) (us : List Urb) → ticketOf u ≡ k → Rising (suc k) us → Rising k (ifPending f u us)
-rising-at pending k u us h r = (omega arith, rw h r)
-rising-at (over e) k u us h r = rising-from k (suc k) us (omega arith) r
+above : (k : ℕ) (is : List Item) → Counted (suc k) is → Above k (tickets (pendingOf is))
+above k [] h = tt
+above k (i ∷ is) h = above-at (i .fate) k (i .urb) (pendingOf is) (h .0) (above (suc k) is (h .1))
 
-rising : (k : ℕ) (is : List Item) → Tickets k is → Rising k (pendingOf is)
-rising k [] h = tt
-rising k (i ∷ is) h = rising-at (i .fate) k (i .urb) (pendingOf is) (h .0) (rising (suc k) is (h .1))
+rises : (t : ℕ) (xs : List ℕ) → Above t xs → Rising xs
+rises t [] h = tt
+rises t (x ∷ xs) h = h .1
 
-rising-apart : (t k : ℕ) (us : List Urb) → t < k → Rising k us → Apart t (tickets us)
-rising-apart t k [] l h = tt
-rising-apart t k (u ∷ us) l h = (omega (arith, h .0), rising-apart t (suc (ticketOf u)) us (omega (arith, h .0)) (h .1))
+pub tickets-rise : (is : List Item) → Counted 1 is → Rising (tickets (pendingOf is))
+tickets-rise is h = rises 0 (tickets (pendingOf is)) (above 0 is h)
 
-rising-distinct : (k : ℕ) (us : List Urb) → Rising k us → Distinct (tickets us)
-rising-distinct k [] h = tt
-rising-distinct k (u ∷ us) h = (rising-apart (ticketOf u) (suc (ticketOf u)) us (omega arith) (h .1), rising-distinct (suc (ticketOf u)) us (h .1))
+above-apart : (s t : ℕ) (xs : List ℕ) → s ≤ t → Above t xs → Apart s xs
+above-apart s t [] l h = tt
+above-apart s t (x ∷ xs) l h = (omega (arith, h .0), above-apart s x xs (omega (arith, h .0)) (h .1))
+
+above-distinct : (t : ℕ) (xs : List ℕ) → Above t xs → Distinct xs
+above-distinct t [] h = tt
+above-distinct t (x ∷ xs) h = (above-apart x x xs (omega arith) (h .1), above-distinct x xs (h .1))
 
 -- no two pending items have one ticket
-pub tickets-distinct : (k : ℕ) (is : List Item) → Tickets k is → Distinct (tickets (pendingOf is))
-tickets-distinct k is h = rising-distinct k (pendingOf is) (rising k is h)
+pub tickets-distinct : (is : List Item) → Counted 1 is → Distinct (tickets (pendingOf is))
+tickets-distinct is h = above-distinct 0 (tickets (pendingOf is)) (above 0 is h)
 
-above-of : (t : ℕ) (us : List Urb) → Rising (suc t) us → Above t (tickets us)
-above-of t [] h = tt
-above-of t (u ∷ us) h = (h .0, above-of (ticketOf u) us (h .1))
+-- a key that none has takes none out
+absent : (t : ℕ) (us : List Urb) → Apart t (tickets us) → without t us ≡ us
+absent t us a = without-absent t us (λ u m e. apart-mem ticketOf t us u a m e)
 
-rises : (k : ℕ) (us : List Urb) → Rising k us → Increasing (tickets us)
-rises k [] h = tt
-rises k (u ∷ us) h = above-of (ticketOf u) us (h .1)
+-- where keys and tickets are distinct, the first that has a URB's key is the one that has its ticket
+pub one-only : (key : Urb → ℕ) (us : List Urb) (u : Urb) → Distinct (map key us) → Distinct (tickets us) → List·Memᴰ u us
+    → withoutFirst key (key u) us ≡ without (ticketOf u) us
+one-only key [] u d t m = absurd (List·Memᴰ·not-nil m)
+one-only key (v ∷ us) u d t m = ⊎-elim here (λ n. behind n (one-only key us u (d .1) (t .1) n)) (List·Memᴰ·cases-cons m)
+  where
+    here : u ≡ v → withoutFirst key (key u) (v ∷ us) ≡ without (ticketOf u) (v ∷ us)
+    here e = cc (eq-eqb (key v) (key u) (ap key (sym e)), eq-eqb (ticketOf v) (ticketOf u) (ap ticketOf (sym e)), absent (ticketOf v) us (t .0))
 
-pub tickets-rise : (k : ℕ) (is : List Item) → Tickets k is → Increasing (tickets (pendingOf is))
-tickets-rise k is h = rises k (pendingOf is) (rising k is h)
+    behind : List·Memᴰ u us → withoutFirst key (key u) us ≡ without (ticketOf u) us → withoutFirst key (key u) (v ∷ us) ≡ without (ticketOf u) (v ∷ us)
+    behind n r =
+        let k = ne-eqb (key v) (key u) (λ e. apart-mem key (key v) us u (d .0) n (sym e)) in
+        let q = ne-eqb (ticketOf v) (ticketOf u) (λ e. apart-mem ticketOf (ticketOf v) us u (t .0) n (sym e)) in
+        cc
 
--- so a ticket names one of them at most
-pub one-only : (t k : ℕ) (is : List Item) → Tickets k is → withoutFirst t (pendingOf is) ≡ without t (pendingOf is)
-one-only t k is h = first-only t (pendingOf is) (tickets-rise k is h)
+-- ## All pending items dropped
 
-without-fresh : (k t : ℕ) (us : List Urb) → t < k → Rising k us → without t us ≡ us
-without-fresh k t [] l h = refl
-without-fresh k t (u ∷ us) l h = cc (ne-eqb (ticketOf u) t (omega (arith, h .0)), without-fresh (suc (ticketOf u)) t us (omega (arith, h .0)) (h .1))
-
-pub record AllDropped (k : ℕ) (is js : List Item) (n : ℕ) : Type 0 where
+pub record AllDropped (is js : List Item) (n : ℕ) : Type 0 where
   pub none-left : pendingOf js ≡ []
-  pub counted : Tickets k js
+  pub counted : Counted 1 js
   pub long : length js ≡ length is
   pub ret : count returned js ≡ count returned is
   pub unl : count unlinked js ≡ count unlinked is
@@ -316,14 +306,25 @@ pub record AllDropped (k : ℕ) (is js : List Item) (n : ℕ) : Type 0 where
   pub grown : Grown is js
   pub ends : (u : Urb) → List·Memᴰ (item u pending) is → List·Memᴰ (item u (over dropped)) js
 
-pub drop-all : (k : ℕ) (us : List Urb) (is : List Item) → Tickets k is → pendingOf is ≡ us → AllDropped k is (markAll (tickets us) is) (length us)
-drop-all k [] is h p = record { none-left = p; counted = h; long = refl; ret = refl; unl = refl; drp = omega arith; grown = grown-refl is; ends = λ v m. absurd (List·Memᴰ·not-nil (rw p at (mem-from v is m))) }
-drop-all k (u ∷ us) is h p =
+pub drop-all : (us : List Urb) (is : List Item) → Counted 1 is → pendingOf is ≡ us → AllDropped is (markAll (tickets us) is) (length us)
+drop-all [] is h p =
+    record {
+      none-left = p;
+      counted = h;
+      long = refl;
+      ret = refl;
+      unl = refl;
+      drp = omega arith;
+      grown = grown-refl is;
+      ends = λ v m. absurd (List·Memᴰ·not-nil (rw p at (mem-from v is m)));
+    }
+drop-all (u ∷ us) is h p =
     let here = eq-eqb (ticketOf u) (ticketOf u) refl in
-    let rest : without (ticketOf u) (u ∷ us) ≡ us = cc (here, without-fresh (suc (ticketOf u)) (ticketOf u) us (omega arith) ((rw p at (rising k is h)) .1)) in
-    let m = mark-one k (ticketOf u) dropped is u h (cc) in
-    let left : pendingOf (mark (ticketOf u) dropped is) ≡ us = cc (pend-mark (ticketOf u) dropped is) in
-    let r = drop-all k us (mark (ticketOf u) dropped is) (tickets-mark k (ticketOf u) dropped is h) left in
+    let marks = mark (ticketOf u) dropped is in
+    let rest : without (ticketOf u) (u ∷ us) ≡ us = cc (here, absent (ticketOf u) us ((rw p at (tickets-distinct is h)) .0)) in
+    let m = mark-one 1 (ticketOf u) dropped is u h (cc) in
+    let left : pendingOf marks ≡ us = cc (pend-mark (ticketOf u) dropped is) in
+    let r = drop-all us marks (counted-mark 1 (ticketOf u) dropped is h) left in
     record {
       none-left = r .none-left;
       counted = r .counted;
@@ -331,10 +332,10 @@ drop-all k (u ∷ us) is h p =
       ret = omega (arith, r .ret, m .0 returned);
       unl = omega (arith, r .unl, m .0 unlinked);
       drp = omega (arith, r .drp, m .0 dropped);
-      grown = grown-trans is (mark (ticketOf u) dropped is) _ (m .1) (r .grown);
+      grown = grown-trans is marks _ (m .1) (r .grown);
       ends =
           λ v w.
-          ⊎-elim (λ (q : v ≡ u). ended-stays (mark (ticketOf u) dropped is) _ v dropped (r .grown) (marked (ticketOf u) dropped is (item v pending) w (ap ticketOf q)))
-          (λ t. r .ends v (mem-to v (mark (ticketOf u) dropped is) (rw left t)))
+          ⊎-elim (λ (q : v ≡ u). ended-stays marks _ v dropped (r .grown) (marked (ticketOf u) dropped is (item v pending) w (ap ticketOf q)))
+          (λ t. r .ends v (mem-to v marks (rw left t)))
           (List·Memᴰ·cases-cons (rw p at (mem-from v is w)));
     }

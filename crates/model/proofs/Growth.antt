@@ -1,70 +1,124 @@
--- Bytes that come to a session: the first 48 of a message end its header, the others are its body's.
-use Prim.Native.Nat.{ℕ, zero, suc, _+_, _-_, _≤_, _<_}
+-- Bytes that come to a session: the first 48 of a message make its header, the others are its body's.
+use Prim.Native.Nat.{ℕ, suc, _+_, _-_, _≤_, _<_}
 use native.Mathlib.Omega.{arith}
 use mathlib.Core.Path.{_≡_, refl, sym, ap, _∙_}
 use mathlib.Core.List.{List, [], _∷_, _++_, append-nil}
-use borrow.Author.Tests.{lt-ltb, le-ltb}
-use lib.ListN.{length, take, drop, set, length-append}
+use borrow.Author.Tests.{lt-ltb, le-ltb, ltb-true, ltb-false}
+use lib.ListN.{length, drop, set, length-append, drop-of-length-le}
 use lib.Seq.{sets, append-snoc}
 use Rattle.wire.specs.Codes
-use Rattle.model.specs.Model.{Sess, Buffers, grow, put}
+use Rattle.messages.specs.Messages.{headerOf}
+use Rattle.messages.specs.declared.message.Header.{Header}
+use Rattle.ground.specs.Tests.{pick, by-test}
+use Rattle.model.specs.State.{Message, partly, headed, Sess, withLink, withMessage, room, place}
+use Rattle.model.specs.Judging.{grownBy, grow}
+use Rattle.model.specs.Acts.{Buffers, dataPut, put}
 use Rattle.model.specs.Cut.{stepAll, putAll, lent}
 
--- a session with other bytes of its message
-abbrev pub holding : Sess → List ℕ → ℕ → Sess
-holding s head body =
-    record {
-      table = s .table;
-      phase = s .phase;
-      devid = s .devid;
-      pend = s .pend;
-      accepted = s .accepted;
-      returned = s .returned;
-      unlinked = s .unlinked;
-      dropped = s .dropped;
-      head = head;
-      body = body;
-    }
+-- a session with another message in progress
+abbrev pub holding : Sess → Message → Sess
+holding s m = withLink (withMessage m (s .link)) s
 
-holding-path : (s : Sess) {hs hs′ : List ℕ} {n n′ : ℕ} → hs ≡ hs′ → n ≡ n′ → holding s hs n ≡ holding s hs′ n′
-holding-path s p q = λ i. holding s (p i) (q i)
+holding-path : (s : Sess) {m m′ : Message} → m ≡ m′ → holding s m ≡ holding s m′
+holding-path s p = λ i. holding s (p i)
 
--- one byte, of the header and of the body
-module _ (s : Sess) (x : ℕ) where
-  pub grow-head : length (s .head) < Codes.HEADER-LEN → grow s x ≡ holding s (s .head ++ (x ∷ [])) (s .body)
-  unfolding grow
-  grow-head h = rw (lt-ltb (length (s .head)) Codes.HEADER-LEN h)
+-- ## One byte
 
-  pub grow-body : Codes.HEADER-LEN ≤ length (s .head) → grow s x ≡ holding s (s .head) (suc (s .body))
-  unfolding grow
-  grow-body h = rw (le-ltb (length (s .head)) Codes.HEADER-LEN h)
+pub grow-is : (s : Sess) (x : ℕ) {m : Message} → s .link .message ≡ m → grow s x ≡ holding s (grownBy m x)
+unfolding grow
+grow-is s x e = holding-path s (ap (λ m. grownBy m x) e)
 
-  pub put-head : (b : Buffers) → length (s .head) < Codes.HEADER-LEN → put s x b ≡ b
-  unfolding put
-  put-head b h = rw (lt-ltb (length (s .head)) Codes.HEADER-LEN h)
+pub put-is : (s : Sess) (x : ℕ) (b : Buffers) {m : Message} → s .link .message ≡ m → put s x b ≡ lent (dataPut m x (b .work)) (b .reply)
+unfolding put
+put-is s x b e = ap (λ m. lent (dataPut m x (b .work)) (b .reply)) e
 
-  pub put-body : (b : Buffers) → Codes.HEADER-LEN ≤ length (s .head) → put s x b ≡ lent (set (b .work) (s .body) x) (b .reply)
-  unfolding put
-  put-body b h = rw (le-ltb (length (s .head)) Codes.HEADER-LEN h)
+module _ (bytes : List ℕ) (x : ℕ) where
+  -- the header takes it, and has room left or is whole
+  pub grown-in : suc (length bytes) < Codes.HEADER-LEN → grownBy (partly bytes) x ≡ partly (bytes ++ (x ∷ []))
+  unfolding pick
+  grown-in h = rw (lt-ltb (length (bytes ++ (x ∷ []))) Codes.HEADER-LEN (rw length-append (omega arith)))
 
--- all at once: k bytes are left of the header
-pub grow-all : (k : ℕ) (xs : List ℕ) (s : Sess) → k ≡ Codes.HEADER-LEN - length (s .head) → stepAll grow s xs ≡ holding s (s .head ++ take k xs) (s .body + length (drop k xs))
-grow-all zero [] s e = holding-path s (sym (append-nil (s .head))) (omega arith)
-grow-all zero (x ∷ xs) s e = rw (grow-body s x (omega arith)) (grow-all zero xs (holding s (s .head) (suc (s .body))) e ∙ holding-path s refl (omega arith))
-grow-all (suc k) [] s e = holding-path s (sym (append-nil (s .head))) (omega arith)
-grow-all (suc k) (x ∷ xs) s e =
-    rw (grow-head s x (omega arith))
-    (grow-all k xs (holding s (s .head ++ (x ∷ [])) (s .body)) (rw length-append (omega arith)) ∙ holding-path s (append-snoc (s .head) x (take k xs)) refl)
+  pub grown-whole : Codes.HEADER-LEN ≤ suc (length bytes) → grownBy (partly bytes) x ≡ headed (headerOf (bytes ++ (x ∷ []))) 0
+  unfolding pick
+  grown-whole h = rw (le-ltb (length (bytes ++ (x ∷ []))) Codes.HEADER-LEN (rw length-append (omega arith)))
 
-pub put-all : (k : ℕ) (xs : List ℕ) (b : Buffers) (s : Sess) → k ≡ Codes.HEADER-LEN - length (s .head) → putAll grow put s xs b ≡ lent (sets (b .work) (s .body) (drop k xs)) (b .reply)
-put-all zero [] b s e = refl
-put-all zero (x ∷ xs) b s e = rw (put-body s x b (omega arith), grow-body s x (omega arith)) (put-all zero xs (lent (set (b .work) (s .body) x) (b .reply)) (holding s (s .head) (suc (s .body))) e)
-put-all (suc k) [] b s e = refl
-put-all (suc k) (x ∷ xs) b s e = rw (put-head s x b (omega arith), grow-head s x (omega arith)) (put-all k xs b (holding s (s .head ++ (x ∷ [])) (s .body)) (rw length-append (omega arith)))
+  -- and no byte of the body is in
+  pub grown-place : place (grownBy (partly bytes) x) ≡ 0
+  grown-place = by-test (λ m. place m ≡ 0) (λ _. refl) (λ _. refl)
 
--- the header grows by one, and a whole one stays
-pub grown-short : (s : Sess) (x : ℕ) → length (s .head) < Codes.HEADER-LEN → length (grow s x .head) ≡ suc (length (s .head))
-grown-short s x h = rw (grow-head s x h, length-append) (omega arith)
+  pub grown-room : room (grownBy (partly bytes) x) ≡ Codes.HEADER-LEN - suc (length bytes)
+  grown-room =
+      let m = bytes ++ (x ∷ []) in
+      let l : length m ≡ suc (length bytes) = rw length-append (omega arith) in
+      by-test (λ m. room m ≡ Codes.HEADER-LEN - suc (length bytes))
+      (λ h. omega (arith, ltb-true (length m) Codes.HEADER-LEN h)) (λ h. omega (arith, ltb-false (length m) Codes.HEADER-LEN h))
 
-pub full-head : (xs : List ℕ) (s : Sess) → Codes.HEADER-LEN ≤ length (s .head) → stepAll grow s xs .head ≡ s .head
-full-head xs s h = ap (λ (s : Sess). s .head) (grow-all zero xs s (omega arith)) ∙ append-nil (s .head)
+-- ## A run of bytes
+
+-- the header has room left after them
+pub grow-in : (bytes xs : List ℕ) (s : Sess) → s .link .message ≡ partly bytes → length bytes + length xs < Codes.HEADER-LEN
+    → stepAll grow s xs ≡ holding s (partly (bytes ++ xs))
+grow-in bytes [] s e h = holding-path s (e ∙ ap partly (sym (append-nil bytes)))
+grow-in bytes (x ∷ xs) s e h =
+    let m = bytes ++ (x ∷ []) in
+    rw (grow-is s x e, grown-in bytes x (omega arith))
+    (grow-in m xs (holding s (partly m)) refl (rw length-append (omega arith)) ∙ holding-path s (ap partly (append-snoc bytes x xs)))
+
+-- they just fill it
+pub grow-whole : (bytes xs : List ℕ) (s : Sess) → s .link .message ≡ partly bytes → 0 < length xs → length bytes + length xs ≡ Codes.HEADER-LEN
+    → stepAll grow s xs ≡ holding s (headed (headerOf (bytes ++ xs)) 0)
+grow-whole bytes [] s e p h = absurd (omega arith)
+grow-whole bytes (x ∷ []) s e p h = rw (grow-is s x e, grown-whole bytes x (omega arith))
+grow-whole bytes (x ∷ y ∷ xs) s e p h =
+    let m = bytes ++ (x ∷ []) in
+    rw (grow-is s x e, grown-in bytes x (omega arith))
+    (grow-whole m (y ∷ xs) (holding s (partly m)) refl (omega arith) (rw length-append (omega arith))
+    ∙ holding-path s (ap (λ (m : List ℕ). headed (headerOf m) 0) (append-snoc bytes x (y ∷ xs))))
+
+-- it was whole before
+pub grow-body : (h : Header) (n : ℕ) (xs : List ℕ) (s : Sess) → s .link .message ≡ headed h n → stepAll grow s xs ≡ holding s (headed h (n + length xs))
+grow-body h n [] s e = holding-path s (e ∙ ap (headed h) (omega arith))
+grow-body h n (x ∷ xs) s e =
+    rw (grow-is s x e) (grow-body h (suc n) xs (holding s (headed h (suc n))) refl ∙ holding-path s (ap (headed h) (omega arith)))
+
+-- so many of them are the body's
+pub grow-place : (xs : List ℕ) (s : Sess)
+    → let m = s .link .message in place (stepAll grow s xs .link .message) ≡ place m + length (drop (room m) xs)
+grow-place xs s = at xs (s .link .message) s refl
+  where
+    at : (xs : List ℕ) (m : Message) (s : Sess) → s .link .message ≡ m → place (stepAll grow s xs .link .message) ≡ place m + length (drop (room m) xs)
+    at [] (partly bytes) s e = rw e refl
+    at [] (headed h n) s e = rw e (omega arith)
+    at (x ∷ xs) (partly bytes) s e =
+        let m = grownBy (partly bytes) x in
+        ap (λ (s : Sess). place (stepAll grow s xs .link .message)) (grow-is s x e) ∙ at xs m (holding s m) refl ∙ rw (grown-place bytes x, grown-room bytes x)
+    at (x ∷ xs) (headed h n) s e =
+        ap (λ (s : Sess). place (stepAll grow s xs .link .message)) (grow-is s x e)
+        ∙ at xs (headed h (suc n)) (holding s (headed h (suc n))) refl ∙ omega arith
+
+-- ## What they do to the buffers
+
+pub put-all : (xs : List ℕ) (b : Buffers) (s : Sess)
+    → let m = s .link .message in putAll grow put s xs b ≡ lent (sets (b .work) (place m) (drop (room m) xs)) (b .reply)
+put-all xs b s = at xs b (s .link .message) s refl
+  where
+    at : (xs : List ℕ) (b : Buffers) (m : Message) (s : Sess) → s .link .message ≡ m
+        → putAll grow put s xs b ≡ lent (sets (b .work) (place m) (drop (room m) xs)) (b .reply)
+    at [] b (partly bytes) s e = refl
+    at [] b (headed h n) s e = refl
+    at (x ∷ xs) b (partly bytes) s e =
+        let m = grownBy (partly bytes) x in
+        rw (put-is s x b e, grow-is s x e) (at xs b m (holding s m) refl ∙ rw (grown-place bytes x, grown-room bytes x))
+    at (x ∷ xs) b (headed h n) s e =
+        rw (put-is s x b e, grow-is s x e) (at xs (lent (set (b .work) n x) (b .reply)) (headed h (suc n)) (holding s (headed h (suc n))) refl)
+
+module _ (bytes xs : List ℕ) (s : Sess) (b : Buffers) (e : s .link .message ≡ partly bytes) where
+  pub put-in : length bytes + length xs < Codes.HEADER-LEN → putAll grow put s xs b ≡ b
+  put-in h = put-all xs b s ∙ rw (e, drop-of-length-le xs {i = room (partly bytes)} (omega arith))
+
+  pub put-whole : 0 < length xs → length bytes + length xs ≡ Codes.HEADER-LEN → putAll grow put s xs b ≡ b
+  put-whole p h = put-all xs b s ∙ rw (e, drop-of-length-le xs {i = room (partly bytes)} (omega arith))
+
+pub put-body : (h : Header) (n : ℕ) (xs : List ℕ) (s : Sess) (b : Buffers) → s .link .message ≡ headed h n
+    → putAll grow put s xs b ≡ lent (sets (b .work) n xs) (b .reply)
+put-body h n xs s b e = put-all xs b s ∙ rw e

@@ -1,63 +1,79 @@
 -- After every list of calls the session is the one that the book describes, and each answer is right by the book before it.
-use Prim.Native.Nat.{ℕ, suc, _+_, _-_, _≤_, _<_}
+use Prim.Native.Nat.{ℕ, suc, _<_}
 use native.Mathlib.Omega.{arith}
 use mathlib.Core.Path.{_≡_, refl, sym, ap, subst, _∙_}
 use mathlib.Core.Logic.{_⊎_, inl, inr, ⊎-elim}
 use mathlib.Core.List.{List, [], _∷_, _++_, append-nil}
 use mathlib.Core.Bool.{Bool, true, false, cond, not, true≢false}
 use mathlib.Core.Option.{Option, none, some}
-use lib.Dec.{eqb, ltb}
-use lib.ListN.{length, take, drop, length-append, length-take}
-use lib.Seq.{sets, take-all, take-append-le, append-snoc}
-use borrow.Author.Tests.{eqb-true, eqb-false, ltb-true, ltb-false}
+use lib.Dec.{eqb}
+use lib.ListN.{length, take}
+use lib.Seq.{sets, append-snoc}
+use borrow.Author.Tests.{eqb-true, eqb-false}
 use Rattle.wire.specs.Codes
-use Rattle.messages.specs.Messages.{busidOf, retSubmit}
-use Rattle.wire.specs.Writing.{over}
+use Rattle.ground.specs.Writing.{over}
+use Rattle.messages.specs.Messages.{busidOf, unlinkSeqnum}
+use Rattle.messages.proofs.Headers.{unlink-seqnum}
 use Rattle.exports.specs.Devices.{devicesOf}
-use Rattle.lookup.specs.Lookup.{First}
 use Rattle.exports.specs.declared.device.Table.{Table}
-use Rattle.lookup.specs.declared.Found.{Found}
+use Rattle.lookup.specs.Lookup.{FirstDevice, devidOf}
 use Rattle.lookup.proofs.First.{find-first}
 use Rattle.transmit.specs.Part.{wireLength}
 use Rattle.pending.specs.Pending.{ticketOf, seqnumOf, tickets, findBy}
-use Rattle.verdicts.specs.Limits
-use Rattle.verdicts.specs.Tests.{first, by-first, pick, by-test}
-use Rattle.verdicts.specs.Rows.{Gives, Clear}
-use Rattle.model.specs.Machine.{Fed}
-use Rattle.model.specs.Model.{Sess, closed, Event, hungry, list, import, submit, answer, unlink, break, refusal, return, end, isHungry, theUrb}
-use Rattle.model.specs.Model.{act, between, after, deviceOf, lookedUp, devidOf, effectOf, add, settle, drop-all, shut, unlinked, returned, judge, grow, put, replyTo, importBytes, Buffers, feedBytes, feedTests, feedOf, idleFeed, Completion, completeTests, Complete, completeOf, Close, closeOf, Open, openOf, fresh, noTable}
-use Rattle.model.specs.Book.{Call, feed, complete, close, Book, opened, apply, cleared, took, keepEvent, keep, pendingOf, Pending}
-use Rattle.model.specs.Cut.{stepAll, replied, written}
-use Rattle.model.specs.Claims.{answerTo, nextOf, header, feedRows, completeRows, closeRows, RightRequest, RightMessage, byPhase, Replies, placeOf, dataIn, Right, Agrees, Grown, Moves, givenIn, Parts, Attaches, consumed, Holds, Demand3}
-use Rattle.model.proofs.Facts.{differ, sum, grown-refl, tickets-rise, find-key, find-none, apart-mem, mem-to, mem-from, pending-before}
-use Rattle.verdicts.proofs.Match.{gives, clear}
-use Rattle.model.proofs.Tables.{feed-match, complete-match}
-use Rattle.model.proofs.Steps.{sessionOf, Fit, Allowed, step, fit-part}
-use Rattle.model.proofs.Judged.{Going, came, Told, judge-right}
-use Rattle.model.proofs.Untouched.{untouched}
 use Rattle.pending.specs.declared.urb.Urb.{Urb}
+use Rattle.pending.proofs.Finding.{find-some, find-none}
+use Rattle.limits.specs.Limits
+use Rattle.ground.specs.Tests.{Test, first, by-first, pick, by-test}
+use Rattle.ground.specs.Rows.{Gives, Clear}
+use Rattle.ground.proofs.Match.{Match, gives, clear}
+use Rattle.model.specs.Machine.{Fed}
+use Rattle.model.specs.State.{Sess, headerIn, returned, unlinked}
+use Rattle.model.specs.Answers.{Outcome, refused, done, Event, hungry, list, import, submit, answer, unlink, break, isHungry}
+use Rattle.model.specs.Judging.{grow, judge}
+use Rattle.model.specs.Acts.{settles, between, deviceOf, afterUnlink, after, importBytes, replyFor, replyTo, Buffers, put, feedBytes, feedTestsOf}
+use Rattle.model.specs.Acts.{refusedFeed, doneFeed, feedOf, Completion, theTransfer, completionTestsOf, Complete, refusedCompletion, completeOf, Close}
+use Rattle.model.specs.Acts.{closeOf, noTable, fresh, Open, openOf}
+use Rattle.model.specs.Book.{Call, feed, complete, close, Entry, fed, completed, closing, Item, Book, opened, withPart, took, mark, Effect, add, settle}
+use Rattle.model.specs.Book.{drop-all, shut, nothing, apply, removal, effectOf, keepEvent, keep, pendingOf, Pending}
+use Rattle.model.specs.Cut.{stepAll, outcomeReply, replied, written}
+use Rattle.model.specs.Claims.{entryOf, nextOf, header, feedRowsBy, completionRowsBy, closeRowsBy, headerRowsBy, RightRequest, RightMessage, byPhase}
+use Rattle.model.specs.Claims.{Replies, placeOf, dataIn, headerFor, Right, Agrees, Grown, Moves, consumedFor, Progresses, AttachesBy, Attaches, Holds}
+use Rattle.model.specs.Claims.{EveryRun}
+use Rattle.ground.proofs.Cases.{differ, never-true}
+use Rattle.model.proofs.Facts.{sum, grown-refl, tickets-rise, mem-to, mem-from, pending-before}
+use Rattle.model.proofs.Tables.{feed-match, completion-match}
+use Rattle.model.proofs.Steps.{messageIn, heading, bodied, header-in, place-in, room-in, short, sessionOf, grow-is, Fit, fit-part, Allowed, act}
+use Rattle.model.proofs.Steps.{phaseAfter, by-seqnum, step, act-is}
+use Rattle.model.proofs.Judged.{Going, came, Judged, looked-up, judge-right}
+use Rattle.model.proofs.Cut.{lawful}
+use Rattle.model.proofs.Untouched.{untouched}
 
 -- ## After an event that is right by the book
 
 pub record After (t : Table) (phase devid : ℕ) (b : Book) (e : Event) (s : Sess) : Type 0 where
-  pub session : s ≡ sessionOf t (s .phase) (s .devid) (keepEvent b 0 e)
-  pub fit : Fit (s .phase) (keepEvent b 0 e)
-  pub going : Going (s .phase) (keepEvent b 0 e)
-  pub grown : Grown (b .items) (keepEvent b 0 e .items)
-  pub moves : Moves (b .items) 0 e (keepEvent b 0 e .items)
-  pub attaches : Attaches t phase devid (b .part) e s
+  pub session : s ≡ sessionOf t (s .link .phase) (s .link .devid) (keepEvent b e)
+  pub fit : Fit (s .link .phase) (keepEvent b e)
+  pub going : Going (s .link .phase) (keepEvent b e)
+  pub grown : Grown (b .items) (keepEvent b e .items)
+  pub moves : (p : List ℕ) (k : ℕ) → Moves (b .items) (fed p (done e) k) (keepEvent b e .items)
+  pub attaches : AttachesBy t phase devid (b .part) e s
+
+-- a session that a book describes is described with its own phase and devid
+described : (t : Table) (phase devid : ℕ) (b : Book) (s : Sess) → s ≡ sessionOf t phase devid b → s ≡ sessionOf t (s .link .phase) (s .link .devid) b
+described t phase devid b s p = p ∙ sym (ap (λ (r : Sess). sessionOf t (r .link .phase) (r .link .devid) b) p)
 
 -- where no message is in progress nothing is asked of it
-no-part : (phase : ℕ) (b : Book) → Going phase (cleared true b)
+no-part : (phase : ℕ) (b : Book) → Going phase (withPart [] b)
 no-part phase b = record { request = λ w l. absurd (omega arith); message = λ w l. absurd (omega arith) }
 
-neither : {A : Type 0} (c : Bool) → byPhase c ⊥ ⊥ → A
-neither true x = absurd x
-neither false x = absurd x
-
+-- of an event that only a request has, or only a message
 asked : (c : Bool) {P : Type 0} → byPhase c P ⊥ → P
 asked true p = p
 asked false p = absurd p
+
+said : (c : Bool) {P : Type 0} → byPhase c ⊥ P → P
+said true p = absurd p
+said false p = p
 
 module _ (t : Table) (phase devid : ℕ) (b : Book) (f : Fit phase b) (o : b .closed ≡ false) where
   abbrev now : Sess
@@ -66,119 +82,127 @@ module _ (t : Table) (phase devid : ℕ) (b : Book) (f : Fit phase b) (o : b .cl
   abbrev Leaves : Event → Type 0
   Leaves e = After t phase devid b e (after now e)
 
+  -- what an event does to the items is what its effect does
+  moved : (e : Event) → Allowed phase b (effectOf e) → (p : List ℕ) (k : ℕ) → Moves (b .items) (fed p (done e) k) (keepEvent b e .items)
+  moved hungry a p k = step phase b (effectOf hungry) f a .does
+  moved list a p k = step phase b (effectOf list) f a .does
+  moved (import st) a p k = either (eqb st 0)
+    where
+      either : (c : Bool) → apply b (cond c nothing shut) .items ≡ b .items
+      either true = refl
+      either false = refl
+  moved (submit u) a p k = step phase b (effectOf (submit u)) f a .does
+  moved (answer q st) a p k = step phase b (effectOf (answer q st)) f a .does
+  moved (unlink q st none) a p k = step phase b (effectOf (unlink q st none)) f a .does
+  moved (unlink q st (some n)) a p k = step phase b (effectOf (unlink q st (some n))) f a .does
+  moved (break n ts) a p k = step phase b (effectOf (break n ts)) f a .does
+
+  -- an event that ends the message, and does to the session what its effect does
+  ended : (e : Event) → isHungry e ≡ false → Allowed phase b (effectOf e) → after now e ≡ between (act now (effectOf e))
+      → AttachesBy t phase devid (b .part) e (after now e) → Leaves e
+  ended e h a s d =
+      let x = effectOf e in
+      let g = step phase b x f a in
+      let next : withPart [] (apply b x) ≡ keepEvent b e = rw h in
+      let goes : after now e ≡ sessionOf t (phaseAfter phase x) devid (withPart [] (apply b x)) = s ∙ ap between (act-is t phase devid b x f a) in
+      let in-phase = sym (ap (λ (r : Sess). r .link .phase) goes) in
+      record {
+        session = described t (phaseAfter phase x) devid (keepEvent b e) (after now e) (goes ∙ ap (sessionOf t (phaseAfter phase x) devid) next);
+        fit = subst (λ (n : ℕ). Fit n (keepEvent b e)) in-phase (subst (Fit (phaseAfter phase x)) next (fit-part _ (apply b x) [] (g .fit)));
+        going = subst (λ (n : ℕ). Going n (keepEvent b e)) in-phase (subst (Going (phaseAfter phase x)) next (no-part _ (apply b x)));
+        grown = subst (λ (k : Book). Grown (b .items) (k .items)) next (g .grown);
+        moves = moved e a;
+        attaches = d;
+      }
+
   -- an import that a device of the table was found for, and one that none was
-  after-found : (i : ℕ) → First (devicesOf t) (busidOf (header (b .part))) i → Leaves (import 0)
-  unfolding pick lookedUp
-  after-found i h =
+  after-found : length (b .part) < Codes.HEADER-LEN → (i : ℕ) → FirstDevice (devicesOf t) (busidOf (header (b .part))) i → Leaves (import 0)
+  unfolding pick
+  after-found l i h =
+      let found = looked-up t phase devid b l ∙ find-first t (busidOf (header (b .part))) .0 i .1 h in
       record {
         session = refl;
-        fit = record { closes = sym o; waiting = λ w. absurd (omega arith); counted = f .counted; seqnums = f .seqnums; shuts = f .shuts };
+        fit = record { closes = sym o; waiting = λ w. absurd (omega arith); counted = f .counted; seqnums = f .seqnums; none-closed = f .none-closed };
         going = no-part _ b;
         grown = grown-refl (b .items);
-        moves = refl;
-        attaches = (refl, i, h, ap (λ k. devidOf (deviceOf t k)) (find-first t (busidOf (header (b .part))) .0 i .1 h));
+        moves = moved (import 0) tt;
+        attaches = (refl, i, h, ap (λ k. devidOf (deviceOf t k)) found);
       }
 
   after-unknown : b .items ≡ [] → Leaves (import 1)
   unfolding pick
-  after-unknown h =
-      let s = step t phase devid b shut f h in
-      record { session = ap between (s .session); fit = fit-part _ _ [] (s .fit); going = no-part _ (apply b shut); grown = s .grown; moves = s .does; attaches = (refl, refl) }
+  after-unknown h = ended (import 1) refl h refl (refl, refl)
 
-  after-import : (st : ℕ) → Told t phase devid b (import st) → Leaves (import st)
+  after-import : (st : ℕ) → Judged t phase devid b (import st) → Leaves (import st)
   after-import st r =
-      ⊎-elim (λ p. subst (λ (k : ℕ). Leaves (import k)) (sym (p .0)) (after-found (p .1) (p .2)))
-      (λ p. subst (λ (k : ℕ). Leaves (import k)) (sym (p .0)) (after-unknown (subst (λ (k : ℕ). Allowed phase b (effectOf 0 (import k))) (p .0) (r .1))))
-      (asked (eqb phase Limits.WAITING) (r .0) .3)
+      let q = asked (eqb phase Limits.WAITING) (r .0) in
+      ⊎-elim (λ p. subst (λ (k : ℕ). Leaves (import k)) (sym (p .0)) (after-found (omega (arith, q .0)) (p .1) (p .2)))
+      (λ p.
+      let empty = subst (λ (k : ℕ). Allowed phase b (effectOf (import k))) (p .0) (r .1) in
+      subst (λ (k : ℕ). Leaves (import k)) (sym (p .0)) (after-unknown empty))
+      (q .3)
 
-  pub after-right : (e : Event) → Told t phase devid b e → Leaves e
-  after-right hungry r = record { session = refl; fit = f; going = r .2 refl; grown = grown-refl (b .items); moves = refl; attaches = (refl, refl) }
-  after-right list r =
-      let s = step t phase devid b shut f (r .1) in
-      record { session = ap between (s .session); fit = fit-part _ _ [] (s .fit); going = no-part _ (apply b shut); grown = s .grown; moves = s .does; attaches = (refl, refl) }
+  -- an unlink takes out by the seqnum the URB that has the ticket
+  unlinked-is : (q st : ℕ) (v : Option ℕ) → Judged t phase devid b (unlink q st v) → afterUnlink now v ≡ act now (removal v)
+  unlinked-is q st none r = refl
+  unlinked-is q st (some k) r =
+      let m = said (eqb phase Limits.WAITING) (r .0) in
+      let w = m .3 .1 in
+      let u = w .0 in
+      let e : unlinkSeqnum (headerIn (messageIn (b .part))) ≡ seqnumOf u =
+      ap unlinkSeqnum (header-in (b .part) (omega (arith, m .0))) ∙ unlink-seqnum (header (b .part)) ∙ sym (w .2) in
+      ap (λ n. settles seqnumOf n unlinked now) e ∙ by-seqnum phase b f u (mem-from u (b .items) (w .1)) t devid unlinked
+      ∙ ap (λ n. settles ticketOf n unlinked now) (w .3)
+
+  -- a message that goes on
+  after-hungry : Going phase b → Leaves hungry
+  after-hungry g =
+      record {
+        session = refl;
+        fit = f;
+        going = g;
+        grown = grown-refl (b .items);
+        moves = moved hungry tt;
+        attaches = (refl, refl);
+      }
+
+  pub after-right : (e : Event) → Judged t phase devid b e → Leaves e
+  after-right hungry r = after-hungry (r .2 refl)
+  after-right list r = ended list refl (r .1) refl (refl, refl)
   after-right (import st) r = after-import st r
-  after-right (submit u) r =
-      let s = step t phase devid b (add u) f (r .1) in
-      record { session = ap between (s .session); fit = fit-part _ _ [] (s .fit); going = no-part _ (apply b (add u)); grown = s .grown; moves = s .does; attaches = (refl, refl) }
-  after-right (answer q st) r =
-      record { session = refl; fit = fit-part _ _ [] f; going = no-part _ b; grown = grown-refl (b .items); moves = refl; attaches = (refl, refl) }
-  after-right (unlink q st none) r =
-      record { session = refl; fit = fit-part _ _ [] f; going = no-part _ b; grown = grown-refl (b .items); moves = refl; attaches = (refl, refl) }
-  after-right (unlink q st (some k)) r =
-      let s = step t phase devid b (settle k unlinked) f (r .1) in
-      record { session = ap between (s .session); fit = fit-part _ _ [] (s .fit); going = no-part _ (apply b (settle k unlinked)); grown = s .grown; moves = s .does; attaches = (refl, refl) }
-  after-right (break n ts) r =
-      let s = step t phase devid b (drop-all ts) f (r .1) in
-      record { session = ap between (s .session); fit = fit-part _ _ [] (s .fit); going = no-part _ (apply b (drop-all ts)); grown = s .grown; moves = s .does; attaches = (refl, refl) }
-  after-right (refusal n) r = neither (eqb phase Limits.WAITING) (r .0)
-  after-right (return n) r = neither (eqb phase Limits.WAITING) (r .0)
-  after-right (end ts) r = neither (eqb phase Limits.WAITING) (r .0)
+  after-right (submit u) r = ended (submit u) refl (r .1) refl (refl, refl)
+  after-right (answer q st) r = ended (answer q st) refl (r .1) refl (refl, refl)
+  after-right (unlink q st v) r = ended (unlink q st v) refl (r .1) (ap between (unlinked-is q st v r)) (unlink-stays v)
+    where
+      unlink-stays : (v : Option ℕ) → AttachesBy t phase devid (b .part) (unlink q st v) (after now (unlink q st v))
+      unlink-stays none = (refl, refl)
+      unlink-stays (some k) = (refl, refl)
+  after-right (break n ts) r = ended (break n ts) refl (r .1) refl (refl, refl)
 
--- ## A byte
-
-grow-head : (p : List ℕ) (x : ℕ) (c : Bool) → ltb (length (take Codes.HEADER-LEN p)) Codes.HEADER-LEN ≡ c
-    → (cond c (take Codes.HEADER-LEN p ++ (x ∷ [])) (take Codes.HEADER-LEN p) ≡ take Codes.HEADER-LEN (p ++ (x ∷ [])))
-    × (cond c (length p - Codes.HEADER-LEN) (suc (length p - Codes.HEADER-LEN)) ≡ length (p ++ (x ∷ [])) - Codes.HEADER-LEN)
-grow-head p x true h =
-    let l : length p < Codes.HEADER-LEN = omega (arith, ltb-true (length (take Codes.HEADER-LEN p)) Codes.HEADER-LEN h, length-take Codes.HEADER-LEN p) in
-    (cc (take-all Codes.HEADER-LEN p (omega arith), take-all Codes.HEADER-LEN (p ++ (x ∷ [])) (omega (arith, length-append p (x ∷ [])))), omega (arith, length-append p (x ∷ [])))
-grow-head p x false h =
-    let l : Codes.HEADER-LEN ≤ length p = omega (arith, ltb-false (length (take Codes.HEADER-LEN p)) Codes.HEADER-LEN h, length-take Codes.HEADER-LEN p) in
-    (sym (take-append-le Codes.HEADER-LEN p (x ∷ []) l), omega (arith, length-append p (x ∷ [])))
-
-grow-is : (t : Table) (phase devid : ℕ) (b : Book) (x : ℕ) → grow (sessionOf t phase devid b) x ≡ sessionOf t phase devid (took b (x ∷ []))
-unfolding grow
-grow-is t phase devid b x = let g = grow-head (b .part) x _ refl in cc (g .0, g .1)
-
-pub is-hungry : (e : Event) → isHungry e ≡ true → e ≡ hungry
-is-hungry hungry h = refl
-is-hungry list h = cc
-is-hungry (import st) h = cc
-is-hungry (submit u) h = cc
-is-hungry (answer q st) h = cc
-is-hungry (unlink q st k) h = cc
-is-hungry (break n ts) h = cc
-is-hungry (refusal n) h = cc
-is-hungry (return n) h = cc
-is-hungry (end ts) h = cc
-
-by-size : {A : Type 0} (a b : ℕ) (c : Bool) → ltb a b ≡ c → (a < b → A) → (b ≤ a → A) → A
-by-size a b true e f g = f (ltb-true a b e)
-by-size a b false e f g = g (ltb-false a b e)
-
-short : {A : Type 0} (a b : ℕ) → (a < b → A) → (b ≤ a → A) → A
-short a b f g = by-size a b (ltb a b) refl f g
+-- ## A piece
 
 quiet-not : {A : Type 0} (e : Event) → e ≡ hungry → isHungry e ≡ false → A
 quiet-not e p h = absurd (true≢false (sym (ap isHungry p) ∙ h))
 
-not-closed : (c : Bool) → (c ≡ true → ⊥) → c ≡ false
-not-closed true h = absurd (h refl)
-not-closed false h = refl
-
--- ## A piece
-
 module _ (t : Table) (phase devid : ℕ) where
   abbrev at : Book → Sess
   at b = sessionOf t phase devid b
-
-  abbrev with-part : Book → List ℕ → Book
-  with-part b m = record { items = b .items; closed = b .closed; part = m }
 
   abbrev RightAt : Book → List ℕ → Event → Type 0
   RightAt b m e = byPhase (eqb phase Limits.WAITING) (RightRequest t (b .items) m e) (RightMessage devid (b .items) m e)
 
   -- m: the bytes consumed for the message; n: those of the piece
   pub record FedRight (b : Book) (m : List ℕ) (n : ℕ) (r : Fed Sess Event Buffers) : Type 0 where
-    pub told : RightAt b m (r .event)
-    pub left : After t phase devid (with-part b m) (r .event) (r .next)
-    pub all : r .event ≡ hungry → r .used ≡ n
+    pub right : RightAt b m (r .event)
+    pub left : After t phase devid (withPart m b) (r .event) (r .next)
+    pub all : r .event ≡ hungry → r .consumed ≡ n
 
   -- where a message goes on, nothing is said
   idle-right : (b : Book) → Going phase b → RightAt b (b .part) hungry
   idle-right b g = by-phase (eqb phase Limits.WAITING) refl
     where
-      by-phase : (c : Bool) → eqb phase Limits.WAITING ≡ c → byPhase c (RightRequest t (b .items) (b .part) hungry) (RightMessage devid (b .items) (b .part) hungry)
+      by-phase : (c : Bool) → eqb phase Limits.WAITING ≡ c
+          → byPhase c (RightRequest t (b .items) (b .part) hungry) (RightMessage devid (b .items) (b .part) hungry)
       by-phase true e =
           short (length (b .part)) Codes.OP-LEN (λ l. inl l)
           λ l. let r = g .request (eqb-true phase Limits.WAITING e) l in inr (l, r .1, r .0 .0, r .0 .1)
@@ -187,13 +211,13 @@ module _ (t : Table) (phase devid : ℕ) where
           λ l. let r = g .message (eqb-false phase Limits.WAITING e) l in inr (l, r .0 .0, r .0 .1, r .1)
 
   fed-right : (xs : List ℕ) (lent : Buffers) (b : Book) → Fit phase b → b .closed ≡ false → Going phase b
-      → let r = feedBytes (at b) lent xs in FedRight b (b .part ++ take (r .used) xs) (length xs) r
+      → let r = feedBytes (at b) lent xs in FedRight b (b .part ++ take (r .consumed) xs) (length xs) r
   unfolding Rattle.model.specs.Machine.feed
   fed-right [] lent b f o g =
-      subst (λ (m : List ℕ). FedRight b m 0 (record { event = hungry; used = 0; buffers = lent; next = at b })) (sym (append-nil (b .part)))
+      subst (λ (m : List ℕ). FedRight b m 0 (record { event = hungry; consumed = 0; buffers = lent; next = at b })) (sym (append-nil (b .part)))
       (record {
-        told = idle-right b g;
-        left = record { session = refl; fit = f; going = g; grown = grown-refl (b .items); moves = refl; attaches = (refl, refl) };
+        right = idle-right b g;
+        left = after-hungry t phase devid b f o g;
         all = λ _. refl;
       })
   fed-right (x ∷ xs) lent b f o g =
@@ -201,191 +225,255 @@ module _ (t : Table) (phase devid : ℕ) where
       let f′ = fit-part phase b (b′ .part) f in
       let j = judge-right t phase devid b′ f′ o (came phase b x g) in
       rw (grow-is t phase devid b x)
-      (by-test (λ (r : Fed Sess Event Buffers). FedRight b (b .part ++ take (r .used) (x ∷ xs)) (suc (length xs)) r)
+      (by-test (λ (r : Fed Sess Event Buffers). FedRight b (b .part ++ take (r .consumed) (x ∷ xs)) (suc (length xs)) r)
       (λ h.
-      let q = fed-right xs (put (at b) x lent) b′ f′ o (j .2 (is-hungry (judge (at b′)) h)) in
-      let u = feedBytes (at b′) (put (at b) x lent) xs .used in
-      let e = append-snoc (b .part) x (take u xs) in
+      let q = fed-right xs (put (at b) x lent) b′ f′ o (j .2 (lawful .silent (at b′) h)) in
+      let r = feedBytes (at b′) (put (at b) x lent) xs in
+      let e = append-snoc (b .part) x (take (r .consumed) xs) in
       record {
-        told = subst (λ (m : List ℕ). RightAt b m (feedBytes (at b′) (put (at b) x lent) xs .event)) e (q .told);
-        left = subst (λ (m : List ℕ). After t phase devid (with-part b m) (feedBytes (at b′) (put (at b) x lent) xs .event) (feedBytes (at b′) (put (at b) x lent) xs .next)) e (q .left);
+        right = subst (λ (m : List ℕ). RightAt b m (r .event)) e (q .right);
+        left = subst (λ (m : List ℕ). After t phase devid (withPart m b) (r .event) (r .next)) e (q .left);
         all = λ k. ap suc (q .all k);
       })
-      λ h. record { told = j .0; left = after-right t phase devid b′ f′ o (judge (at b′)) j; all = λ k. quiet-not (judge (at b′)) k h })
+      λ h. record { right = j .0; left = after-right t phase devid b′ f′ o (judge (at b′)) j; all = λ k. quiet-not (judge (at b′)) k h })
 
   -- the session when some bytes are in
   all-in : (xs : List ℕ) (b : Book) → stepAll grow (at b) xs ≡ at (took b xs)
-  all-in [] b = ap (λ m. at (with-part b m)) (sym (append-nil (b .part)))
-  all-in (x ∷ xs) b = rw (grow-is t phase devid b x) (all-in xs (took b (x ∷ [])) ∙ ap (λ m. at (with-part b m)) (append-snoc (b .part) x xs))
+  all-in [] b = ap (λ m. at (withPart m b)) (sym (append-nil (b .part)))
+  all-in (x ∷ xs) b = rw (grow-is t phase devid b x) (all-in xs (took b (x ∷ [])) ∙ ap (λ m. at (withPart m b)) (append-snoc (b .part) x xs))
 
   -- its reply to an event that is right by those bytes
   module _ (b : Book) (m : List ℕ) where
     abbrev reply-to : Event → List ℕ
-    reply-to e = replyTo (at (with-part b m)) e
+    reply-to e = replyTo (at (withPart m b)) e
 
-    import-is : (st : ℕ) → RightAt b m (import st) → Replies t m (import st) (reply-to (import st))
-    unfolding replyTo lookedUp
-    import-is st r =
-        let f = find-first t (busidOf (header m)) in
-        ⊎-elim (λ p. subst (λ (k : ℕ). Replies t m (import k) (reply-to (import st))) (sym (p .0)) (p .1, p .2, ap (importBytes t) (f .0 (p .1) .1 (p .2))))
-        (λ p. subst (λ (k : ℕ). Replies t m (import k) (reply-to (import st))) (sym (p .0)) (ap (importBytes t) (f .1 .1 (p .1))))
-        (asked (eqb phase Limits.WAITING) r .3)
-
-    reply-is : (e : Event) → (((n : ℕ) → e ≡ refusal n → ⊥) → RightAt b m e) → Replies t m e (reply-to e)
+    import-is : (st : ℕ) → RightAt b m (import st) → Replies t m (done (import st)) (reply-to (import st))
     unfolding replyTo
-    reply-is hungry r = refl
-    reply-is list r = refl
-    reply-is (import st) r = import-is st (r (λ n h. differ (cc)))
-    reply-is (submit u) r = refl
-    reply-is (answer q st) r = refl
-    reply-is (unlink q st o) r = refl
-    reply-is (break n ts) r = refl
-    reply-is (refusal n) r = refl
-    reply-is (return n) r = refl
-    reply-is (end ts) r = refl
+    import-is st r =
+        let q = asked (eqb phase Limits.WAITING) r in
+        let f = find-first t (busidOf (header m)) in
+        let l = looked-up t phase devid (withPart m b) (omega (arith, q .0)) in
+        ⊎-elim
+        (λ p.
+        let e = ap (importBytes t) (l ∙ f .0 (p .1) .1 (p .2)) in
+        subst (λ (k : ℕ). Replies t m (done (import k)) (reply-to (import st))) (sym (p .0)) (p .1, p .2, e))
+        (λ p.
+        let e = ap (importBytes t) (l ∙ f .1 .1 (p .1)) in
+        subst (λ (k : ℕ). Replies t m (done (import k)) (reply-to (import st))) (sym (p .0)) e)
+        (q .3)
+
+    answer-is : (q st : ℕ) → RightAt b m (answer q st) → Replies t m (done (answer q st)) (reply-to (answer q st))
+    unfolding replyTo
+    answer-is q st r =
+        let s = said (eqb phase Limits.WAITING) r in
+        let e = header-in m (omega (arith, s .0)) in
+        rw (e, s .4)
+
+    reply-is : (o : Outcome Event) → ((e : Event) → o ≡ done e → RightAt b m e) → Replies t m o (outcomeReply (at (withPart m b)) o)
+    unfolding replyTo
+    reply-is (refused n) r = refl
+    reply-is (done hungry) r = refl
+    reply-is (done list) r = refl
+    reply-is (done (import st)) r = import-is st (r (import st) refl)
+    reply-is (done (submit u)) r = refl
+    reply-is (done (answer q st)) r = answer-is q st (r (answer q st) refl)
+    reply-is (done (unlink q st o)) r = refl
+    reply-is (done (break n ts)) r = refl
 
 -- ## What a call leaves
 
-pub record Leaves′ (t : Table) (phase devid : ℕ) (b : Book) (given : ℕ) (m : List ℕ) (b′ : Book) (e : Event) (s′ : Sess) : Type 0 where
-  pub session : s′ ≡ sessionOf t (s′ .phase) (s′ .devid) b′
-  pub fit : Fit (s′ .phase) b′
-  pub going : Going (s′ .phase) b′
-  pub grown : Grown (b .items) (b′ .items)
-  pub moves : Moves (b .items) given e (b′ .items)
-  pub attaches : Attaches t phase devid m e s′
+-- the message in progress goes on by the answer alone
+apply-part : (b : Book) (x : Effect) → apply b x .part ≡ b .part
+apply-part b (add u) = refl
+apply-part b (settle t e) = refl
+apply-part b (drop-all ts) = refl
+apply-part b shut = refl
+apply-part b nothing = refl
+
+progresses : (b : Book) (a : Entry) → Progresses (b .part) a (keep b a .part)
+progresses b (fed p (refused n) k) = refl
+progresses b (fed p (done e) k) = ((λ h. rw h (apply-part (took b (take k p)) (effectOf e))), λ h. rw h)
+progresses b (completed t (refused n)) = refl
+progresses b (completed t (done wire)) = refl
+progresses b (closing (refused n)) = refl
+progresses b (closing (done ts)) = refl
+
+-- a header that no row was against, with fewer URBs pending
+fewer : (is js : List Item) (h : List ℕ) → ((u : Urb) → Pending js u → Pending is u) → Clear (headerRowsBy is h) → Clear (headerRowsBy js h)
+fewer is js h f y =
+    (y .0, (y .1 .0, (y .1 .1 .0, (y .1 .1 .1 .0, ((λ q. y .1 .1 .1 .1 .0 (q .0, (q .1 .0, f (q .1 .0) (q .1 .1), q .1 .2))), tt)))))
+
+pub record Left (t : Table) (phase devid : ℕ) (b : Book) (a : Entry) (s : Sess) : Type 0 where
+  pub session : s ≡ sessionOf t (s .link .phase) (s .link .devid) (keep b a)
+  pub fit : Fit (s .link .phase) (keep b a)
+  pub going : Going (s .link .phase) (keep b a)
+  pub grown : Grown (b .items) (keep b a .items)
+  pub moves : Moves (b .items) a (keep b a .items)
+  pub attaches : Attaches t phase devid (consumedFor (b .part) a) a s
 
 module _ (t : Table) (phase devid : ℕ) (b : Book) (f : Fit phase b) (g : Going phase b) where
   abbrev now′ : Sess
   now′ = sessionOf t phase devid b
 
-  still : (given n : ℕ) → Leaves′ t phase devid b given (b .part) b (refusal n) now′
-  still given n = record { session = refl; fit = f; going = g; grown = grown-refl (b .items); moves = refl; attaches = (refl, refl) }
+  -- a refusal leaves all as it was
+  still : (a : Entry) → b ≡ keep b a → Moves (b .items) a (keep b a .items) → Attaches t phase devid (consumedFor (b .part) a) a now′
+      → Left t phase devid b a now′
+  still a k m d =
+      record {
+        session = ap (sessionOf t phase devid) k;
+        fit = subst (Fit phase) k f;
+        going = subst (Going phase) k g;
+        grown = subst (λ (c : Book). Grown (b .items) (c .items)) k (grown-refl (b .items));
+        moves = m;
+        attaches = d;
+      }
 
   -- ## A feed
 
   module _ (p : List ℕ) (lent : Buffers) where
-    abbrev used-of : Fed Sess Event Buffers → List ℕ
-    used-of r = b .part ++ take (r .used) p
+    abbrev message-in : Fed Sess (Outcome Event) Buffers → List ℕ
+    message-in r = b .part ++ take (r .consumed) p
 
-    pub record FeedHolds (r : Fed Sess Event Buffers) : Type 0 where
-      pub refused : (n : ℕ) → r .event ≡ refusal n → Gives (feedRows b lent) n × (r .used ≡ 0) × (r .buffers ≡ lent) × (r .next ≡ now′)
-      pub told : ((n : ℕ) → r .event ≡ refusal n → ⊥) → Clear (feedRows b lent) × RightAt t phase devid b (used-of r) (r .event)
-      pub all : r .event ≡ hungry → r .used ≡ length p
-      pub left : Leaves′ t phase devid b 0 (used-of r) (keepEvent (took b (take (r .used) p)) 0 (r .event)) (r .event) (r .next)
+    pub record FeedHolds (r : Fed Sess (Outcome Event) Buffers) : Type 0 where
+      pub refuses : (n : ℕ) → r .event ≡ refused n → Gives (feedRowsBy b lent) n × (r .consumed ≡ 0) × (r .buffers ≡ lent) × (r .next ≡ now′)
+      pub right : (e : Event) → r .event ≡ done e → Clear (feedRowsBy b lent) × RightAt t phase devid b (message-in r) e
+      pub all : r .event ≡ done hungry → r .consumed ≡ length p
+      pub left : Left t phase devid b (fed p (r .event) (r .consumed)) (r .next)
 
-    feed-idle : (n : ℕ) → first (feedTests now′ lent) ≡ some n → FeedHolds (idleFeed now′ lent n)
-    feed-idle n h =
+    feed-refused : (n : ℕ) → first (feedTestsOf now′ lent) ≡ some n → FeedHolds (refusedFeed now′ lent n)
+    feed-refused n h =
+        let given = gives (feedTestsOf now′ lent) (feedRowsBy b lent) (feed-match now′ b lent (f .closes)) n h in
         record {
-          refused = λ k e. (let q : k ≡ n = cc in rw q (gives (feedTests now′ lent) (feedRows b lent) (feed-match now′ b lent (f .closes)) n h), refl, refl, refl);
-          told = λ k. absurd (k n refl);
+          refuses = λ k e. (let q : k ≡ n = cc in rw q given, refl, refl, refl);
+          right = λ e k. differ (cc);
           all = λ e. differ (cc);
-          left = subst (λ (m : List ℕ). Leaves′ t phase devid b 0 m (record { items = b .items; closed = b .closed; part = m }) (refusal n) now′) (sym (append-nil (b .part))) (still 0 n);
+          left = still (fed p (refused n) 0) refl refl (refl, refl);
         }
 
-    feed-goes : first (feedTests now′ lent) ≡ none → FeedHolds (feedBytes now′ lent p)
-    feed-goes h =
-        let y = clear (feedTests now′ lent) (feedRows b lent) (feed-match now′ b lent (f .closes)) h in
-        let o : b .closed ≡ false = not-closed (b .closed) (y .0) in
-        let q = fed-right t phase devid p lent b f o g in
+    feed-done : first (feedTestsOf now′ lent) ≡ none → FeedHolds (doneFeed (feedBytes now′ lent p))
+    feed-done h =
+        let y = clear (feedTestsOf now′ lent) (feedRowsBy b lent) (feed-match now′ b lent (f .closes)) h in
         let r = feedBytes now′ lent p in
+        let q = fed-right t phase devid p lent b f (never-true (b .closed) (y .0)) g in
         record {
-          refused = λ n e. neither (eqb phase Limits.WAITING) (subst (RightAt t phase devid b (used-of r)) e (q .told));
-          told = λ _. (y, q .told);
-          all = q .all;
-          left = record { session = q .left .session; fit = q .left .fit; going = q .left .going; grown = q .left .grown; moves = q .left .moves; attaches = q .left .attaches };
+          refuses = λ n e. differ (cc);
+          right = λ e k. let i : r .event ≡ e = cc in (y, subst (RightAt t phase devid b (b .part ++ take (r .consumed) p)) i (q .right));
+          all = λ k. q .all (cc);
+          left =
+              record {
+                session = q .left .session;
+                fit = q .left .fit;
+                going = q .left .going;
+                grown = q .left .grown;
+                moves = q .left .moves p (r .consumed);
+                attaches = q .left .attaches;
+              };
         }
 
     feed-holds : FeedHolds (feedOf now′ lent p)
     unfolding feedOf
-    feed-holds = by-first FeedHolds (first (feedTests now′ lent)) feed-idle feed-goes
+    feed-holds = by-first FeedHolds (first (feedTestsOf now′ lent)) feed-refused feed-done
 
     -- the buffers, by the laws of every feed
     feed-reply : let r = feedOf now′ lent p in
-        (bytes : List ℕ) × Replies t (used-of r) (r .event) bytes × (r .buffers .reply ≡ over bytes (lent .reply)) × (written now′ p r ≡ length bytes)
+        (bytes : List ℕ)
+        × Replies t (message-in r) (r .event) bytes
+        × (r .buffers .reply ≡ over bytes (lent .reply))
+        × (written now′ p r ≡ length bytes)
     feed-reply =
         let r = feedOf now′ lent p in (
           replied now′ p r,
-          rw (all-in t phase devid (take (r .used) p) b) (reply-is t phase devid b (used-of r) (r .event) (λ h. feed-holds .told h .1)),
+          rw (all-in t phase devid (take (r .consumed) p) b) (reply-is t phase devid b (message-in r) (r .event) (λ e h. feed-holds .right e h .1)),
           untouched now′ lent p .reply,
           refl,
         )
 
-    feed-work : let r = feedOf now′ lent p in r .buffers .work ≡ sets (lent .work) (placeOf (b .part)) (dataIn (b .part) (take (r .used) p))
-    feed-work =
-        let r = feedOf now′ lent p in
-        let k : Codes.HEADER-LEN - length (header (b .part)) ≡ Codes.HEADER-LEN - length (b .part) = omega (arith, length-take Codes.HEADER-LEN (b .part)) in
-        untouched now′ lent p .work ∙ ap (λ k. sets (lent .work) (placeOf (b .part)) (drop k (take (r .used) p))) k
+    feed-work : let r = feedOf now′ lent p in r .buffers .work ≡ sets (lent .work) (placeOf (b .part)) (dataIn (b .part) (take (r .consumed) p))
+    feed-work = untouched now′ lent p .work ∙ rw (place-in (b .part), room-in (b .part))
 
   -- ## A completion
 
   -- what is pending is fewer, and the message in progress is as it was
   settled-going : (k : ℕ) → Going phase (apply b (settle k returned))
   settled-going k =
+      let js = mark k returned (b .items) in
       record {
         request = g .request;
         message =
-            λ w l.
-            let r = g .message w l in
-            let y = r .0 .0 in
-            (((y .0, (y .1 .0, (y .1 .1 .0, (y .1 .1 .1 .0, ((λ q. y .1 .1 .1 .1 .0 (q .0, (q .1 .0, pending-before k returned (b .items) (q .1 .0) (q .1 .1), q .1 .2))), tt))))), r .0 .1), r .1);
+            λ w l. let r = g .message w l in ((fewer (b .items) js (header (b .part)) (pending-before k returned (b .items)) (r .0 .0), r .0 .1), r .1);
       }
 
   module _ (c : Completion) where
-    abbrev named : Option Urb
-    named = findBy ticketOf (c .ticket) (pendingOf (b .items))
+    abbrev held : Option Urb
+    held = findBy ticketOf (c .ticket) (pendingOf (b .items))
 
     pub record CompleteHolds (r : Complete) : Type 0 where
-      pub refused : (n : ℕ) → r .event ≡ refusal n → Gives (completeRows b c) n × (r .header ≡ c .header) × (r .next ≡ now′)
-      pub accepted : ((n : ℕ) → r .event ≡ refusal n → ⊥)
-          → Clear (completeRows b c)
+      pub refuses : (n : ℕ) → r .answer ≡ refused n → Gives (completionRowsBy b c) n × (r .header ≡ c .header) × (r .next ≡ now′)
+      pub accepts : (wire : ℕ) → r .answer ≡ done wire
+          → Clear (completionRowsBy b c)
           × ((u : Urb)
           × Pending (b .items) u
           × (ticketOf u ≡ c .ticket)
-          × (r .event ≡ return (wireLength (u .transfer .direction) (c .actual)))
-          × (r .header ≡ over (retSubmit (record { seqnum = seqnumOf u; status = c .status; actual = c .actual; frame = u .transfer .frame; packets = u .transfer .packets })) (c .header)))
-      pub left : Leaves′ t phase devid b (c .ticket) (b .part) (keepEvent b (c .ticket) (r .event)) (r .event) (r .next)
+          × (wire ≡ wireLength (u .transfer .direction) (c .actual))
+          × (r .header ≡ over (headerFor u c) (c .header)))
+      pub left : Left t phase devid b (completed (c .ticket) (r .answer)) (r .next)
 
-    complete-idle : (n : ℕ) → first (completeTests now′ c) ≡ some n → CompleteHolds (record { event = refusal n; header = c .header; next = now′ })
-    complete-idle n h =
+    abbrev tests : List (Test ℕ)
+    tests = completionTestsOf now′ c
+
+    match : Match tests (completionRowsBy b c)
+    match = completion-match now′ b c (f .closes) refl (f .counted)
+
+    complete-refused : (n : ℕ) → first tests ≡ some n → CompleteHolds (refusedCompletion now′ c n)
+    complete-refused n h =
         record {
-          refused = λ k e. (let q : k ≡ n = cc in rw q (gives (completeTests now′ c) (completeRows b c) (complete-match now′ b c (f .closes) refl (f .counted)) n h), refl, refl);
-          accepted = λ k. absurd (k n refl);
-          left = still (c .ticket) n;
+          refuses = λ k e. (let q : k ≡ n = cc in rw q (gives tests (completionRowsBy b c) match n h), refl, refl);
+          accepts = λ w e. differ (cc);
+          left = still (completed (c .ticket) (refused n)) refl refl (refl, refl);
         }
 
-    abbrev done : Option Urb → Complete
-    done o =
-        let u = theUrb o .transfer in
-        record {
-          event = return (wireLength (u .direction) (c .actual));
-          header = over (retSubmit (record { seqnum = u .seqnum; status = c .status; actual = c .actual; frame = u .frame; packets = u .packets })) (c .header);
-          next = act now′ (settle (c .ticket) returned);
-        }
+    -- a completion that isn't refused finds its URB
+    complete-found : first tests ≡ none → (o : Option Urb) → held ≡ o → (u : Urb) × (held ≡ some u)
+    complete-found h none e =
+        let missing = find-none ticketOf (c .ticket) (pendingOf (b .items)) .0 e in
+        absurd (clear tests (completionRowsBy b c) match h .1 .1 .0 (λ u m k. missing u (mem-from u (b .items) m) k))
+    complete-found h (some u) e = (u, e)
 
-    complete-goes : first (completeTests now′ c) ≡ none → (o : Option Urb) → named ≡ o → CompleteHolds (done o)
-    complete-goes h none e =
-        let y = clear (completeTests now′ c) (completeRows b c) (complete-match now′ b c (f .closes) refl (f .counted)) h in
-        absurd (y .1 .1 .0 (λ u m k. apart-mem ticketOf (c .ticket) (pendingOf (b .items)) u (find-none ticketOf (c .ticket) (pendingOf (b .items)) e) (mem-from u (b .items) m) k))
-    complete-goes h (some u) e =
-        let y = clear (completeTests now′ c) (completeRows b c) (complete-match now′ b c (f .closes) refl (f .counted)) h in
-        let q = find-key ticketOf (c .ticket) (pendingOf (b .items)) u e in
-        let s = step t phase devid b (settle (c .ticket) returned) f (u, e) in
+    complete-left : (u : Urb) (wire : ℕ) → held ≡ some u → Left t phase devid b (completed (c .ticket) (done wire)) (settles ticketOf (c .ticket) returned now′)
+    complete-left u wire e =
+        let s = step phase b (settle (c .ticket) returned) f (u, e) in
         record {
-          refused = λ n k. differ (cc);
-          accepted = λ _. (y, (u, mem-to u (b .items) (q .1), q .0, refl, refl));
-          left = record { session = s .session; fit = s .fit; going = settled-going (c .ticket); grown = s .grown; moves = s .does; attaches = (refl, refl) };
+          session = act-is t phase devid b (settle (c .ticket) returned) f (u, e);
+          fit = s .fit;
+          going = settled-going (c .ticket);
+          grown = s .grown;
+          moves = s .does;
+          attaches = (refl, refl);
         }
 
     complete-holds : CompleteHolds (completeOf now′ c)
     unfolding completeOf
-    complete-holds = by-first CompleteHolds (first (completeTests now′ c)) complete-idle (λ h. complete-goes h named refl)
+    complete-holds =
+        by-first CompleteHolds (first tests) complete-refused
+        λ h.
+        let w = complete-found h held refl in
+        let u = w .0 in
+        let q = find-some ticketOf (c .ticket) (pendingOf (b .items)) u (w .1) in
+        let long : wireLength (theTransfer held .direction) (c .actual) ≡ wireLength (u .transfer .direction) (c .actual) =
+        ap (λ o. wireLength (theTransfer o .direction) (c .actual)) (w .1) in
+        let written = ap (λ o. over (replyFor (theTransfer o) (c .status) (c .actual)) (c .header)) (w .1) in
+        record {
+          refuses = λ n k. differ (cc);
+          accepts = λ wire k. (clear tests (completionRowsBy b c) match h, (u, mem-to u (b .items) (q .1), q .0, (cc), written));
+          left = complete-left u _ (w .1);
+        }
 
   -- ## Closing
 
   pub record CloseHolds (r : Close) : Type 0 where
-    pub refused : (n : ℕ) → r .event ≡ refusal n → Gives (closeRows b) n × (r .next ≡ now′)
-    pub accepted : ((n : ℕ) → r .event ≡ refusal n → ⊥) → Clear (closeRows b) × (r .event ≡ end (tickets (pendingOf (b .items))))
-    pub left : Leaves′ t phase devid b 0 (b .part) (keepEvent b 0 (r .event)) (r .event) (r .next)
+    pub refuses : (n : ℕ) → r .answer ≡ refused n → Gives (closeRowsBy b) n × (r .next ≡ now′)
+    pub accepts : (ts : List ℕ) → r .answer ≡ done ts → Clear (closeRowsBy b) × (ts ≡ tickets (pendingOf (b .items)))
+    pub left : Left t phase devid b (closing (r .answer)) (r .next)
 
   close-holds : CloseHolds (closeOf now′)
   unfolding closeOf
@@ -393,17 +481,25 @@ module _ (t : Table) (phase devid : ℕ) (b : Book) (f : Fit phase b) (g : Going
       by-test CloseHolds
       (λ h.
       record {
-        refused = λ n e. (inl (sym (f .closes) ∙ h, let q : n ≡ Limits.SESSION-CLOSED = cc in q), refl);
-        accepted = λ k. absurd (k Limits.SESSION-CLOSED refl);
-        left = still 0 Limits.SESSION-CLOSED;
+        refuses = λ n e. (inl (sym (f .closes) ∙ h, let q : n ≡ Limits.SESSION-CLOSED = cc in q), refl);
+        accepts = λ ts e. differ (cc);
+        left = still (closing (refused Limits.SESSION-CLOSED)) refl refl (refl, refl);
       })
       λ h.
       let ts = tickets (pendingOf (b .items)) in
-      let s = step t phase devid b (drop-all ts) f refl in
+      let s = step phase b (drop-all ts) f refl in
       record {
-        refused = λ n e. differ (cc);
-        accepted = λ _. (((λ k. true≢false (sym k ∙ sym (f .closes) ∙ h)), tt), refl);
-        left = record { session = ap between (s .session); fit = fit-part _ _ [] (s .fit); going = no-part _ (apply b (drop-all ts)); grown = s .grown; moves = s .does; attaches = (refl, refl) };
+        refuses = λ n e. differ (cc);
+        accepts = λ us e. (((λ k. true≢false (sym k ∙ sym (f .closes) ∙ h)), tt), cc);
+        left =
+            record {
+              session = ap between (act-is t phase devid b (drop-all ts) f refl);
+              fit = fit-part _ _ [] (s .fit);
+              going = no-part _ (apply b (drop-all ts));
+              grown = s .grown;
+              moves = s .does;
+              attaches = (refl, refl);
+            };
       }
 
 -- ## Every list of calls
@@ -416,48 +512,29 @@ agrees t phase devid b f =
       numbers = refl;
       sum = sum (b .items);
       counted = f .counted;
-      rising = tickets-rise 1 (b .items) (f .counted);
+      rising = tickets-rise (b .items) (f .counted);
       seqnums = f .seqnums;
-      none-closed = f .shuts;
+      none-closed = f .none-closed;
       none-waiting = f .waiting;
-      head = refl;
-      body = refl;
+      heading = heading (b .part);
+      bodied = bodied (b .part);
     }
 
 right : (t : Table) (phase devid : ℕ) (b : Book) → Fit phase b → Going phase b → (c : Call) → Right (sessionOf t phase devid b) b c
-right t phase devid b f g (feed p lent) = let h = feed-holds t phase devid b f g p lent in
-    record { refused = h .refused; told = h .told; all = h .all; reply = feed-reply t phase devid b f g p lent; work = feed-work t phase devid b f g p lent }
-right t phase devid b f g (complete c) = let h = complete-holds t phase devid b f g c in record { refused = h .refused; accepted = h .accepted }
-right t phase devid b f g close = let h = close-holds t phase devid b f g in record { refused = h .refused; accepted = h .accepted }
-
--- the message in progress, by the event alone but for a refused feed, which consumed nothing
-parts-by : (given : ℕ) (before : List ℕ) (b : Book) (e : Event) → ((n : ℕ) → e ≡ refusal n → b .part ≡ before) → ((n : ℕ) → e ≡ return n → b .part ≡ before) → Parts before (b .part) e (keepEvent b given e .part)
-parts-by given before b hungry f g = refl
-parts-by given before b list f g = refl
-parts-by given before b (import st) f g = refl
-parts-by given before b (submit u) f g = refl
-parts-by given before b (answer q st) f g = refl
-parts-by given before b (unlink q st o) f g = refl
-parts-by given before b (break n ts) f g = refl
-parts-by given before b (refusal n) f g = f n refl
-parts-by given before b (return n) f g = g n refl
-parts-by given before b (end ts) f g = refl
-
-parts : (t : Table) (phase devid : ℕ) (b : Book) → Fit phase b → Going phase b → (c : Call)
-    → let a = answerTo (sessionOf t phase devid b) c in Parts (b .part) (consumed b c a) (a .event) (keep b c a .part)
-parts t phase devid b f g (feed p lent) =
+right t phase devid b f g (feed p lent) =
     let h = feed-holds t phase devid b f g p lent in
-    let r = feedOf (sessionOf t phase devid b) lent p in
-    parts-by 0 (b .part) (took b (take (r .used) p)) (r .event)
-    (λ n e. ap (λ k. b .part ++ take k p) (h .refused n e .1) ∙ append-nil (b .part))
-    (λ n e. neither (eqb phase Limits.WAITING) (subst (RightAt t phase devid b (b .part ++ take (r .used) p)) e (h .told (λ k i. differ (cc)) .1)))
-parts t phase devid b f g (complete c) = parts-by (c .ticket) (b .part) b (completeOf (sessionOf t phase devid b) c .event) (λ _ _. refl) (λ _ _. refl)
-parts t phase devid b f g close = parts-by 0 (b .part) b (closeOf (sessionOf t phase devid b) .event) (λ _ _. refl) (λ _ _. refl)
+    record {
+      refuses = h .refuses;
+      right = h .right;
+      all = h .all;
+      reply = feed-reply t phase devid b f g p lent;
+      work = feed-work t phase devid b f g p lent;
+    }
+right t phase devid b f g (complete c) = let h = complete-holds t phase devid b f g c in record { refuses = h .refuses; accepts = h .accepts }
+right t phase devid b f g close = let h = close-holds t phase devid b f g in record { refuses = h .refuses; accepts = h .accepts }
 
 leaves : (t : Table) (phase devid : ℕ) (b : Book) → Fit phase b → Going phase b → (c : Call)
-    → let s = sessionOf t phase devid b in
-    let a = answerTo s c in
-    Leaves′ t phase devid b (givenIn c) (consumed b c a) (keep b c a) (a .event) (nextOf s c)
+    → let s = sessionOf t phase devid b in Left t phase devid b (entryOf s c) (nextOf s c)
 leaves t phase devid b f g (feed p lent) = feed-holds t phase devid b f g p lent .left
 leaves t phase devid b f g (complete c) = complete-holds t phase devid b f g c .left
 leaves t phase devid b f g close = close-holds t phase devid b f g .left
@@ -466,21 +543,26 @@ holds : (cs : List Call) (t : Table) (phase devid : ℕ) (b : Book) → Fit phas
 holds [] t phase devid b f g = agrees t phase devid b f
 holds (c ∷ cs) t phase devid b f g =
     let s = sessionOf t phase devid b in
+    let s′ = nextOf s c in
+    let b′ = keep b (entryOf s c) in
     let l = leaves t phase devid b f g c in (
       agrees t phase devid b f,
       right t phase devid b f g c,
       l .grown,
       l .moves,
-      parts t phase devid b f g c,
+      progresses b (entryOf s c),
       l .attaches,
       ap (λ r. r .table) (l .session),
-      subst (λ (r : Sess). Holds r (keep b c (answerTo s c)) cs) (sym (l .session)) (holds cs t (nextOf s c .phase) (nextOf s c .devid) (keep b c (answerTo s c)) (l .fit) (l .going)),
+      subst (λ (r : Sess). Holds r b′ cs) (sym (l .session)) (holds cs t (s′ .link .phase) (s′ .link .devid) b′ (l .fit) (l .going)),
     )
 
 start : (t : Table) (phase : ℕ) (good : Bool) → eqb phase Limits.CLOSED ≡ not good → (cs : List Call) → Holds (fresh t phase) (opened good) cs
 start t phase good e cs =
-    holds cs t phase 0 (opened good) (record { closes = e; waiting = λ _. refl; counted = tt; seqnums = tt; shuts = λ _. refl }) (no-part phase (opened good))
+    holds cs t phase 0 (opened good) (record { closes = e; waiting = λ _. refl; counted = tt; seqnums = tt; none-closed = λ _. refl })
+    (no-part phase (opened good))
 
-pub every-run : Demand3
+pub every-run : EveryRun
 unfolding openOf
-every-run t cs = by-test (λ (r : Open). Holds (r .next) (opened (r .good)) cs) (λ _. start t Limits.WAITING true refl cs) (λ _. start (noTable t) Limits.CLOSED false refl cs)
+every-run t cs =
+    by-test (λ (r : Open). Holds (r .next) (opened (r .good)) cs) (λ _. start t Limits.WAITING true refl cs)
+    (λ _. start (noTable t) Limits.CLOSED false refl cs)

@@ -1,44 +1,53 @@
 -- What a feed leaves as it was.
-use Prim.Native.Nat.{ℕ, suc, _+_, _-_, _≤_, _<_}
+use Prim.Native.Nat.{ℕ, suc, _+_, _≤_, _<_}
 use native.Mathlib.Omega.{arith}
 use mathlib.Core.Path.{_≡_, refl, sym, ap, _∙_}
 use mathlib.Core.List.{List, [], _∷_, _++_}
-use mathlib.Core.Bool.{Bool, true, false}
+use mathlib.Core.Bool.{false}
 use mathlib.Core.Option.{Option, none, some}
-use borrow.Author.Tests.{ltb-true, ltb-false, eqb-true, eqb-false}
-use lib.Dec.{eqb, ltb}
-use lib.ListN.{length, take, drop, set, length-append, length-take, drop-of-length-le}
+use borrow.Author.Tests.{ltb-true, eqb-true, eqb-false}
+use lib.ListN.{length, take, drop, set, length-take, drop-of-length-le}
 use lib.Seq.{sets, drop-at, drop-nil, take-set-le, drop-set-lt}
 use Rattle.wire.specs.Codes
-use Rattle.messages.specs.Messages.{unlinkOf}
-use Rattle.wire.specs.Writing.{over}
+use Rattle.ground.specs.Writing.{over}
+use Rattle.messages.specs.Messages.{bodyLen, unlinkSeqnum, headerOf, requestOf}
+use Rattle.messages.specs.declared.message.Header.{Header}
 use Rattle.lookup.specs.declared.Found.{Found}
 use Rattle.lookup.specs.declared.Found.the-variants.{At, Nothing}
 use Rattle.pending.specs.Pending.{seqnumOf, findBy}
-use Rattle.verdicts.specs.Limits
-use Rattle.verdicts.specs.Tests.{first, decide, by-test, by-first}
-use Rattle.model.specs.Machine.{Fed, feed}
-use Rattle.model.specs.Model
-use Rattle.model.specs.Model.{Sess, Event, Buffers, isHungry, bodyOf, grow, put, judge, after, tell, replyTo, feedBytes, feedOf, refusal, Complete, completeOf, Close, closeOf}
-use Rattle.model.specs.Cut.{stepAll, bodyIn, taken, replied, placed, Leaving, Untouched, butWork, lent, WorkFree, Keeps}
 use Rattle.pending.specs.declared.urb.Urb.{Urb}
+use Rattle.limits.specs.Limits
+use Rattle.ground.specs.Tests.{first, decide, by-test, by-first}
+use Rattle.verdicts.specs.Verdicts
+use Rattle.model.specs.Machine.{Fed, feed}
+use Rattle.model.specs.State.{Message, partly, headed, Sess, headerIn, room, place}
+use Rattle.model.specs.Answers.{Outcome, refused, done, Event, isHungry}
+use Rattle.model.specs.Judging
+use Rattle.model.specs.Judging.{grownBy, grow, judge}
+use Rattle.model.specs.Acts
+use Rattle.model.specs.Acts.{Buffers, put, after, replyTo, writeReply, feedBytes, feedOf, doneFeed, Complete, completeOf, Close, closeOf}
+use Rattle.model.specs.Cut.{stepAll, taken, replied, dataPlaced, Heading, Feeding, Leaving, Untouched, butWork, lent, WorkFree, Keeps}
 use Rattle.model.proofs.Cutting
 use Rattle.model.proofs.Cut.{lawful}
-use Rattle.model.proofs.Growth.{holding, grow-head, grow-all, put-all, grown-short, full-head}
+use Rattle.model.proofs.Growth.{holding, grow-is, grown-room, grow-body, grow-place, put-all}
 
 -- ## What is judged when
 
 -- Nothing past the header came yet.
-data InFront (s : Sess) : Type 0 where
-  short : length (s .head) < Codes.HEADER-LEN → InFront s
-  bare : s .body ≡ 0 → InFront s
+abbrev InFront : Sess → Type 0
+InFront s = place (s .link .message) ≡ 0
+
+-- If the header is whole, it announces more than what came.
+abbrev Announced : Message → Type 0
+Announced (partly bytes) = Unit
+Announced (headed h body) = body < bodyLen h
 
 -- A feed goes on within a request, within a header, within a body.
 record Waits (s : Sess) : Type 0 where
-  request : s .phase ≡ Limits.WAITING → length (s .head) < Codes.HEADER-LEN
-  message : (s .phase ≡ Limits.WAITING → ⊥) → Codes.HEADER-LEN ≤ length (s .head) → s .body < bodyOf (s .head)
+  request : s .link .phase ≡ Limits.WAITING → Heading (s .link .message)
+  message : (s .link .phase ≡ Limits.WAITING → ⊥) → Announced (s .link .message)
 
--- A list, an unlink and a break come with a byte of the header. No byte is answered with a refusal.
+-- A list, an unlink and a break come with a byte of the header.
 abbrev Judged : Sess → Event → Type 0
 Judged s Event.hungry = Waits s
 Judged s Event.list = InFront s
@@ -46,50 +55,57 @@ Judged s (Event.import st) = Unit
 Judged s (Event.submit u) = Unit
 Judged s (Event.answer q st) = Unit
 Judged s (Event.unlink q st t) = InFront s
-Judged s (Event.break n ts) = InFront s
-Judged s (Event.refusal n) = ⊥
-Judged s (Event.return n) = ⊥
-Judged s (Event.end ts) = ⊥
+Judged s (Event.break f ts) = InFront s
 
-judged-unlink : (s : Sess) (q : ℕ) (u : Option Urb) → InFront s → Judged s (Model.unlinks q u)
+judged-unlink : (s : Sess) (q : ℕ) (u : Option Urb) → InFront s → Judged s (Judging.unlinks q u)
 judged-unlink s q none f = f
 judged-unlink s q (some u) f = f
 
-judged-import : (s : Sess) (f : Found) → Judged s (Model.imports f)
+judged-import : (s : Sess) (f : Found) → Judged s (Judging.imports f)
 judged-import s (At i) = tt
 judged-import s Nothing = tt
 
-module _ (s : Sess) (n : s .phase ≡ Limits.WAITING → ⊥) where
-  judged-submit : Judged s (Model.submitting s)
-  unfolding Model.submitting Model.submitted
-  judged-submit =
-      by-test (Judged s) (λ l. record { request = λ w. absurd (n w); message = λ _ _. ltb-true _ _ l })
-      (λ _. by-first (Judged s) (first (Model.submitTests (s .head) s)) (λ _ _. tt) (λ _. tt))
+module _ (s : Sess) (n : s .link .phase ≡ Limits.WAITING → ⊥) where
+  announced : Announced (s .link .message) → Waits s
+  announced a = record { request = λ w. absurd (n w); message = λ _. a }
 
-  judged-message : Judged s (Model.message s)
-  unfolding Model.message Model.headed
-  judged-message =
-      by-test (Judged s) (λ l. record { request = λ w. absurd (n w); message = λ _ h. absurd (omega (arith, ltb-true)) }) (λ _. by-test (Judged s)
-      (λ z. by-first (Judged s) (first (Model.messageTests (s .head) (s .pend))) (λ _ _. bare (eqb-true _ _ z))
-      (λ _. by-test (Judged s) (λ _. judged-submit)
-      (λ _. judged-unlink s (unlinkOf (s .head) .seqnum) (findBy seqnumOf (unlinkOf (s .head) .target) (s .pend)) (bare (eqb-true _ _ z)))))
-      (λ _. judged-submit))
+  judged-submit : (h : Header) (body : ℕ) → s .link .message ≡ headed h body → Judged s (Judging.submitting s h body)
+  unfolding Judging.submitting Judging.submitted
+  judged-submit h body e =
+      by-test (Judged s) (λ l. announced (rw e (ltb-true body (bodyLen h) l)))
+      (λ _. by-first (Judged s) (first (Judging.submitTestsOf h s)) (λ _ _. tt) (λ _. tt))
 
-module _ (s : Sess) (w : s .phase ≡ Limits.WAITING) where
-  waits : length (s .head) < Codes.HEADER-LEN → Waits s
-  waits h = record { request = λ _. h; message = λ n _. absurd (n w) }
+  judged-header : (h : Header) → s .link .message ≡ headed h 0 → Judged s (Judging.wholeHeader s h)
+  unfolding Judging.wholeHeader
+  judged-header h e =
+      let f : InFront s = rw e in
+      by-first (Judged s) (first (Judging.headerTestsOf h (s .pend))) (λ _ _. f)
+      (λ _. by-test (Judged s) (λ _. judged-submit h 0 e)
+      (λ _. judged-unlink s (h .transfer .seqnum) (findBy seqnumOf (unlinkSeqnum h) (s .pend)) f))
 
-  judged-request : Judged s (Model.request s)
-  unfolding Model.request Model.requested
-  judged-request =
+  judged-message : (m : Message) → s .link .message ≡ m → Judged s (Judging.message s m)
+  unfolding Judging.message
+  judged-message (partly bytes) e = announced (rw e tt)
+  judged-message (headed h body) e =
+      by-test (Judged s) (λ z. judged-header h (e ∙ ap (headed h) (eqb-true body 0 z))) (λ _. judged-submit h body e)
+
+module _ (s : Sess) (w : s .link .phase ≡ Limits.WAITING) where
+  judged-request : (m : Message) → s .link .message ≡ m → Judged s (Judging.request s m)
+  unfolding Judging.request Judging.requested
+  judged-request (headed h body) e = judged-import s (Judging.lookedUp s)
+  judged-request (partly m) e =
+      let f : InFront s = rw e in
+      let waits : length m < Codes.HEADER-LEN → Waits s = λ h. record { request = λ _. rw e h; message = λ n. absurd (n w) } in
       by-test (Judged s) (λ l. waits (omega (arith, ltb-true))) (λ _. by-test (Judged s)
-      (λ e. let h : length (s .head) < Codes.HEADER-LEN = omega (arith, eqb-true (length (s .head)) Codes.OP-LEN e) in
-      by-first (Judged s) (first (Model.requestTests (s .head))) (λ _ _. short h) (λ _. by-test (Judged s) (λ _. short h) (λ _. waits h)))
-      (λ _. by-test (Judged s) (λ l. waits (omega (arith, ltb-true))) (λ _. judged-import s (Model.lookedUp s))))
+      (λ l. by-first (Judged s) (first (Verdicts.requestTests (requestOf m))) (λ _ _. f)
+      (λ _. by-test (Judged s) (λ _. f) (λ _. waits (omega (arith, eqb-true (length m) Codes.OP-LEN l)))))
+      (λ _. by-test (Judged s) (λ l. waits (omega (arith, ltb-true))) (λ _. judged-import s (Judging.lookedUp s))))
 
 judged : (s : Sess) → Judged s (judge s)
 unfolding judge
-judged s = by-test (Judged s) (λ w. judged-request s (eqb-true _ _ w)) (λ n. judged-message s (eqb-false _ _ n))
+judged s =
+    by-test (Judged s) (λ w. judged-request s (eqb-true _ _ w) (s .link .message) refl)
+    (λ n. judged-message s (eqb-false _ _ n) (s .link .message) refl)
 
 -- ## Every feed
 
@@ -98,95 +114,109 @@ empty-is [] h = refl
 empty-is (x ∷ xs) h = absurd (omega arith)
 
 -- up to a header's byte no byte of the body came
-front-none : (xs : List ℕ) (s : Sess) → InFront (stepAll grow s xs) → bodyIn s xs ≡ []
-front-none xs s f = at (rw (grow-all (Codes.HEADER-LEN - length (s .head)) xs s refl) at f)
-  where
-    at : InFront (holding s (s .head ++ take (Codes.HEADER-LEN - length (s .head)) xs) (s .body + length (bodyIn s xs))) → bodyIn s xs ≡ []
-    at (short h) = drop-of-length-le xs {i = Codes.HEADER-LEN - length (s .head)} (omega (arith, simp (length-append, length-take) at h))
-    at (bare z) = empty-is (bodyIn s xs) (omega arith)
+front-none : (xs : List ℕ) (s : Sess) → InFront (stepAll grow s xs) → drop (room (s .link .message)) xs ≡ []
+front-none xs s f = empty-is (drop (room (s .link .message)) xs) (omega (arith, grow-place xs s))
 
 -- a session that has no body to come: it waits for a request, or the bytes that come make a header that announces none
 abbrev Dataless : Sess → List ℕ → Type 0
-Dataless s xs = (s .phase ≡ Limits.WAITING → ⊥) → (s .body ≡ 0) × (bodyOf (stepAll grow s xs .head) ≡ 0)
+Dataless s xs = (s .link .phase ≡ Limits.WAITING → ⊥) → bodyLen (headerIn (stepAll grow s xs .link .message)) ≡ 0
 
-waits-short : (s : Sess) (xs : List ℕ) → Waits s → Dataless s xs → length (s .head) < Codes.HEADER-LEN
-waits-short s xs w d = at (eqb (s .phase) Limits.WAITING) (ltb (length (s .head)) Codes.HEADER-LEN) refl refl
+-- it waits only for its header, byte by byte
+heading-on : (s : Sess) (x : ℕ) (xs : List ℕ) (m : Message) → s .link .message ≡ m → Heading m → Waits (grow s x) → Dataless (grow s x) xs
+    → Heading (grow s x .link .message) × (suc (room (grow s x .link .message)) ≡ room m)
+heading-on s x xs (headed h body) e f w d = absurd f
+heading-on s x xs (partly bytes) e f w d =
+    let g = grow-is s x e in
+    let heading : Waits (holding s (grownBy (partly bytes) x)) → Dataless (holding s (grownBy (partly bytes) x)) xs → Heading (grownBy (partly bytes) x) =
+    by-test (λ m. Waits (holding s m) → Dataless (holding s m) xs → Heading m) (λ l _ _. ltb-true _ _ l)
+    (λ _ w d. whole (headerOf (bytes ++ (x ∷ []))) w d) in
+    rw g (heading (rw g at w) (rw g at d), ap suc (grown-room bytes x))
   where
-    at : (c l : Bool) → eqb (s .phase) Limits.WAITING ≡ c → ltb (length (s .head)) Codes.HEADER-LEN ≡ l → length (s .head) < Codes.HEADER-LEN
-    at true l p q = w .request (eqb-true _ _ p)
-    at false true p q = ltb-true _ _ q
-    at false false p q =
-        let n = eqb-false (s .phase) Limits.WAITING p in
-        let h = ltb-false (length (s .head)) Codes.HEADER-LEN q in
-        absurd (omega (arith, w .message n h, d n .0, rw (full-head xs s h) at (d n .1)))
+    whole : (h : Header) → Waits (holding s (headed h 0)) → Dataless (holding s (headed h 0)) xs → ⊥
+    whole h w d =
+        let t = holding s (headed h 0) in
+        let z = ap (λ (s : Sess). bodyLen (headerIn (s .link .message))) (grow-body h 0 xs t refl) in
+        omega (arith, w .message (w .request), z, d (w .request))
 
-dataless-on : (s : Sess) (x : ℕ) (xs : List ℕ) → length (s .head) < Codes.HEADER-LEN → Dataless s (x ∷ xs) → Dataless (grow s x) xs
-dataless-on s x xs h d n = let p = d (λ w. n (rw (grow-head s x h) w)) in (rw (grow-head s x h) (p .0), p .1)
+room-some : (m : Message) → Heading m → 0 < room m
+room-some (partly bytes) f = omega arith
+room-some (headed h body) f = absurd f
+
+dataless-on : (s : Sess) (x : ℕ) (xs : List ℕ) → Dataless s (x ∷ xs) → Dataless (grow s x) xs
+unfolding grow
+dataless-on s x xs d = d
 
 -- its feeds end with the header
-front-used : (xs : List ℕ) (b : Buffers) (s : Sess) → length (s .head) < Codes.HEADER-LEN → Dataless s (take (feedBytes s b xs .used) xs) → length (s .head) + feedBytes s b xs .used ≤ Codes.HEADER-LEN
-front-used xs b s =
-    Cutting.by-feed grow put judge after tell Model.hungry isHungry
-    (λ s b xs r. length (s .head) < Codes.HEADER-LEN → Dataless s (take (r .used) xs) → length (s .head) + r .used ≤ Codes.HEADER-LEN)
+front-consumed : (xs : List ℕ) (b : Buffers) (s : Sess) → Heading (s .link .message) → Dataless s (take (feedBytes s b xs .consumed) xs)
+    → feedBytes s b xs .consumed ≤ room (s .link .message)
+front-consumed xs b s =
+    Cutting.by-feed grow put judge after writeReply Event.hungry isHungry
+    (λ s b xs r. Heading (s .link .message) → Dataless s (take (r .consumed) xs) → r .consumed ≤ room (s .link .message))
     (λ s b h d. omega arith)
-    (λ s b x xs _ h d. omega arith)
+    (λ s b x xs _ h d. room-some (s .link .message) h)
     (λ s b x xs r q f h d.
-    let g = dataless-on s x (take (r .used) xs) h d in
+    let g = dataless-on s x (take (r .consumed) xs) d in
     let w : Waits (grow s x) = rw (lawful .silent (grow s x) q) at (judged (grow s x)) in
-    omega (arith, grown-short s x h, f (waits-short (grow s x) (take (r .used) xs) w g) g)) xs b s
+    let n = heading-on s x (take (r .consumed) xs) (s .link .message) refl h w g in
+    omega (arith, n .1, f (n .0) g)) xs b s
+
+done-is : {e e′ : Event} → done e ≡ done e′ → e ≡ e′
+done-is h = cc
 
 module _ (s : Sess) (b : Buffers) (piece : List ℕ) where
-  -- what is said was judged when the bytes consumed were in
-  fed-judged : let r = feedBytes s b piece in (e : Event) → r .event ≡ e → isHungry e ≡ false → Judged (taken s piece r) e
-  fed-judged e h q =
-      let r = feedBytes s b piece in
-      rw (Cutting.fed-judged grow put judge after tell Model.hungry isHungry lawful piece b s (ap isHungry h ∙ q) ∙ h) at (judged (taken s piece r))
+  abbrev fed : Feeding
+  fed = doneFeed (feedBytes s b piece)
 
-  fed-buffers : let r = feedBytes s b piece in r .buffers ≡ lent (sets (b .work) (s .body) (placed s piece r)) (over (replied s piece r) (b .reply))
-  unfolding tell
+  -- what is said was judged when the bytes consumed were in
+  fed-judged : (e : Event) → fed .event ≡ done e → isHungry e ≡ false → Judged (taken s piece fed) e
+  fed-judged e h q =
+      rw (Cutting.fed-judged grow put judge after writeReply Event.hungry isHungry lawful piece b s (ap isHungry (done-is h) ∙ q) ∙ done-is h)
+      at (judged (taken s piece fed))
+
+  fed-buffers : fed .buffers ≡ lent (sets (b .work) (place (s .link .message)) (dataPlaced s piece fed)) (over (replied s piece fed) (b .reply))
+  unfolding writeReply
   fed-buffers =
-      let r = feedBytes s b piece in
-      ap (λ (r : Fed Sess Event Buffers). r .buffers) (Cutting.fed-is grow put judge after tell Model.hungry isHungry lawful piece b s)
-      ∙ rw (put-all (Codes.HEADER-LEN - length (s .head)) (take (r .used) piece) b s refl)
+      ap (λ (r : Fed Sess Event Buffers). r .buffers) (Cutting.fed-is grow put judge after writeReply Event.hungry isHungry lawful piece b s)
+      ∙ rw (put-all (take (fed .consumed) piece) b s)
 
   -- an event without a reply
-  fed-mute : let r = feedBytes s b piece in (e : Event) → r .event ≡ e → replyTo (taken s piece r) e ≡ [] → r .buffers .reply ≡ b .reply
-  fed-mute e h n = rw (fed-buffers, h, n)
+  fed-mute : (e : Event) → fed .event ≡ done e → replyTo (taken s piece fed) e ≡ [] → fed .buffers .reply ≡ b .reply
+  fed-mute e h n = rw (fed-buffers, done-is h, n)
 
   -- no body
-  fed-bare : let r = feedBytes s b piece in placed s piece r ≡ [] → r .buffers .work ≡ b .work
+  fed-bare : dataPlaced s piece fed ≡ [] → fed .buffers .work ≡ b .work
   fed-bare h = rw (fed-buffers, h)
 
-  fed-front : let r = feedBytes s b piece in InFront (taken s piece r) → r .buffers .work ≡ b .work
-  fed-front f = fed-bare (front-none (take (feedBytes s b piece .used) piece) s f)
+  fed-front : InFront (taken s piece fed) → fed .buffers .work ≡ b .work
+  fed-front f = fed-bare (front-none (take (fed .consumed) piece) s f)
 
-  fed-short : let r = feedBytes s b piece in length (s .head) < Codes.HEADER-LEN → Dataless s (take (r .used) piece) → r .buffers .work ≡ b .work
-  fed-short h d =
-      let n = feedBytes s b piece .used in
-      fed-bare (drop-of-length-le (take n piece) {i = Codes.HEADER-LEN - length (s .head)} (simp length-take (omega (arith, front-used piece b s h d))))
+  fed-heading : Heading (s .link .message) → Dataless s (take (fed .consumed) piece) → fed .buffers .work ≡ b .work
+  fed-heading h d =
+      fed-bare (drop-of-length-le (take (fed .consumed) piece) {i = room (s .link .message)}
+      (simp length-take (omega (arith, front-consumed piece b s h d))))
 
-  leaving-bytes : Leaving s b piece (feedBytes s b piece)
+  leaving-bytes : Leaving s b piece fed
   unfolding replyTo
   leaving-bytes =
       record {
-        refused = λ n h. absurd (fed-judged (Model.refusal n) h refl);
-        broken = λ n ts h. λ i. lent (fed-front (fed-judged (Model.break n ts) h refl) i) (fed-mute (Model.break n ts) h refl i);
-        waits = λ h. fed-mute Model.hungry h refl;
-        accepts = λ u h. fed-mute (Model.submit u) h refl;
+        refuses = λ n h. cc;
+        broken = λ f ts h. λ i. lent (fed-front (fed-judged (Event.break f ts) h refl) i) (fed-mute (Event.break f ts) h refl i);
+        waits = λ h. fed-mute Event.hungry h refl;
+        accepts = λ u h. fed-mute (Event.submit u) h refl;
         reply = ap (λ (b : Buffers). b .reply) fed-buffers;
         work = ap (λ (b : Buffers). b .work) fed-buffers;
-        lists = λ h. fed-front (fed-judged Model.list h refl);
-        requests = λ w h. fed-short h (λ n. absurd (n w));
-        unlinks = λ q st t h. fed-front (fed-judged (Model.unlink q st t) h refl);
-        dataless = λ h z d. fed-short h (λ _. (z, d));
+        lists = λ h. fed-front (fed-judged Event.list h refl);
+        requests = λ w h. fed-heading h (λ n. absurd (n w));
+        unlinks = λ q st t h. fed-front (fed-judged (Event.unlink q st t) h refl);
+        dataless = λ h d. fed-heading h (λ _. d);
       }
 
   leaving : Leaving s b piece (feedOf s b piece)
-  unfolding feedOf replyTo
+  unfolding feedOf
   leaving =
-      by-first (Leaving s b piece) (first (Model.feedTests s b))
+      by-first (Leaving s b piece) (first (Acts.feedTestsOf s b))
       (λ n _. record {
-        refused = λ m h i. record { event = h i; used = 0; buffers = b; next = s };
+        refuses = λ m h i. record { event = h i; consumed = 0; buffers = b; next = s };
         broken = λ _ _ _. refl;
         waits = λ _. refl;
         accepts = λ _ _. refl;
@@ -195,7 +225,7 @@ module _ (s : Sess) (b : Buffers) (piece : List ℕ) where
         lists = λ _. refl;
         requests = λ _ _. refl;
         unlinks = λ _ _ _ _. refl;
-        dataless = λ _ _ _. refl;
+        dataless = λ _ _. refl;
       })
       (λ _. leaving-bytes)
 
@@ -218,34 +248,42 @@ sets-past (x ∷ bytes) at n buffer h = sets-past bytes (suc at) n (set buffer a
 
 -- a feed without it
 abbrev feedReply : Sess → List ℕ → List ℕ → Fed Sess Event (List ℕ)
-feedReply s reply piece = feed grow (λ s x reply. reply) judge after (λ s e reply. over (replyTo s e) reply) Model.hungry isHungry s reply piece
+feedReply s reply piece =
+    feed grow (λ s x reply. reply) judge after (λ s e reply. over (replyTo s e) reply) Event.hungry isHungry s reply piece
 
-bytes-work-free : (s : Sess) (b : Buffers) (piece : List ℕ) → butWork (feedBytes s b piece) ≡ feedReply s (b .reply) piece
-unfolding put tell
+bytes-work-free : (s : Sess) (b : Buffers) (piece : List ℕ) → Cutting.of-part (λ b. b .reply) (feedBytes s b piece) ≡ feedReply s (b .reply) piece
+unfolding put writeReply
 bytes-work-free s b piece =
-    Cutting.fed-part grow judge after Model.hungry isHungry (λ b. b .reply) put tell (λ s x reply. reply) (λ s e reply. over (replyTo s e) reply) (λ _ _ _. refl) (λ _ _ _. refl) piece b s
+    Cutting.fed-part grow judge after Event.hungry isHungry (λ b. b .reply) put writeReply
+    (λ s x reply. reply) (λ s e reply. over (replyTo s e) reply) (λ _ _ _. refl) (λ _ _ _. refl) piece b s
 
-pub work-free-bytes : (s : Sess) (v w reply piece : List ℕ) → butWork (feedBytes s (lent v reply) piece) ≡ butWork (feedBytes s (lent w reply) piece)
-work-free-bytes s v w reply piece = bytes-work-free s (lent v reply) piece ∙ sym (bytes-work-free s (lent w reply) piece)
+pub work-free-bytes : (s : Sess) (v w reply piece : List ℕ)
+    → butWork (doneFeed (feedBytes s (lent v reply) piece)) ≡ butWork (doneFeed (feedBytes s (lent w reply) piece))
+work-free-bytes s v w reply piece =
+    ap (λ (r : Fed Sess Event (List ℕ)). record { event = done (r .event); consumed = r .consumed; buffers = r .buffers; next = r .next })
+    (bytes-work-free s (lent v reply) piece ∙ sym (bytes-work-free s (lent w reply) piece))
 
-fed-work-free : (s : Sess) (b : Buffers) (piece : List ℕ)
-    → butWork (feedOf s b piece) ≡ decide (first (Model.feedTests s b)) (λ n. record { event = Model.refusal n; used = 0; buffers = b .reply; next = s }) (feedReply s (b .reply) piece)
+fed-work-free : (s : Sess) (v w reply piece : List ℕ) → length v ≡ length w → butWork (feedOf s (lent v reply) piece) ≡ butWork (feedOf s (lent w reply) piece)
 unfolding feedOf decide
-fed-work-free s b piece = at (first (Model.feedTests s b))
+fed-work-free s v w reply piece h = rw h (at (first (Acts.feedTestsOf s (lent w reply))))
   where
-    at : (o : Option ℕ) → butWork (decide o (Model.idleFeed s b) (feedBytes s b piece)) ≡ decide o (λ n. record { event = Model.refusal n; used = 0; buffers = b .reply; next = s }) (feedReply s (b .reply) piece)
-    at none = bytes-work-free s b piece
+    at : (o : Option ℕ)
+        → butWork (decide o (Acts.refusedFeed s (lent v reply)) (doneFeed (feedBytes s (lent v reply) piece)))
+        ≡ butWork (decide o (Acts.refusedFeed s (lent w reply)) (doneFeed (feedBytes s (lent w reply) piece)))
+    at none = work-free-bytes s v w reply piece
     at (some n) = refl
 
 pub work-free : WorkFree
 work-free s v w reply piece h =
     let r = feedOf s (lent v reply) piece in
     let q = feedOf s (lent w reply) piece in
-    let e : butWork r ≡ butWork q = fed-work-free s (lent v reply) piece ∙ rw h (sym (fed-work-free s (lent w reply) piece)) in
+    let e : butWork r ≡ butWork q = fed-work-free s v w reply piece h in
+    let m = s .link .message in
     record {
       answer = e;
-      bytes = placed s piece q;
-      first = untouched s (lent v reply) piece .work ∙ ap (λ (r : Fed Sess Event (List ℕ)). sets v (s .body) (bodyIn s (take (r .used) piece))) e;
+      bytes = dataPlaced s piece q;
+      first = untouched s (lent v reply) piece .work
+          ∙ ap (λ (r : Fed Sess (Outcome Event) (List ℕ)). sets v (place m) (drop (room m) (take (r .consumed) piece))) e;
       second = untouched s (lent w reply) piece .work;
     }
 
@@ -255,7 +293,9 @@ pub keeps : Keeps
 unfolding completeOf closeOf
 keeps s c =
     record {
-      complete = by-first (λ (r : Complete). (n : ℕ) → r .event ≡ refusal n → r ≡ record { event = refusal n; header = c .header; next = s }) (first (Model.completeTests s c)) (λ n _ m h. cc) (λ _ m h. cc);
-      header = by-first (λ (r : Complete). drop Codes.HEADER-LEN (r .header) ≡ drop Codes.HEADER-LEN (c .header)) (first (Model.completeTests s c)) (λ _ _. refl) (λ _. refl);
-      close = by-test (λ (r : Close). (n : ℕ) → r .event ≡ refusal n → r .next ≡ s) (λ _ _ _. refl) (λ _ n h. cc);
+      complete = by-first (λ (r : Complete). (n : ℕ) → r .answer ≡ refused n → r ≡ Acts.refusedCompletion s c n) (first (Acts.completionTestsOf s c))
+          (λ n _ m h. cc) (λ _ m h. cc);
+      header = by-first (λ (r : Complete). drop Codes.HEADER-LEN (r .header) ≡ drop Codes.HEADER-LEN (c .header)) (first (Acts.completionTestsOf s c))
+          (λ _ _. refl) (λ _. refl);
+      close = by-test (λ (r : Close). (n : ℕ) → r .answer ≡ refused n → r .next ≡ s) (λ _ _ _. refl) (λ _ n h. cc);
     }

@@ -1,14 +1,17 @@
--- The plain book of a run, kept from the calls' arguments and answers alone (01, "The book of a run").
-use Prim.Native.Nat.{ℕ, _+_, _-_}
+-- The plain book of a run, kept from the calls' arguments and answers alone (PROTOCOL.md, 7).
+use Prim.Native.Nat.{ℕ, _+_}
 use mathlib.Core.Path.{_≡_}
-use mathlib.Core.Bool.{Bool, true, false, not}
+use mathlib.Core.Bool.{Bool, true, false, not, cond}
 use mathlib.Core.List.{List, [], _∷_, _++_, List·Memᴰ}
+use mathlib.Core.Option.{Option, none, some}
 use lib.Dec.{eqb}
 use lib.ListN.{length, take}
 use Rattle.pending.specs.Pending.{ticketOf}
-use Rattle.model.specs.Model.{Event, hungry, list, import, submit, answer, unlink, break, refusal, return, end}
-use Rattle.model.specs.Model.{End, returned, unlinked, dropped, same, Effect, add, settle, drop-all, shut, nothing, effectOf, Buffers, Completion, Numbers}
+use Rattle.pending.specs.declared.counts.Numbers.{Numbers}
 use Rattle.pending.specs.declared.urb.Urb.{Urb}
+use Rattle.model.specs.State.{End, returned, unlinked, dropped}
+use Rattle.model.specs.Answers.{Outcome, refused, done, Event, hungry, list, import, submit, answer, unlink, break, isHungry}
+use Rattle.model.specs.Acts.{Buffers, Completion}
 
 -- ## Calls and answers
 
@@ -17,10 +20,11 @@ pub data Call : Type 0 where
   complete : Completion → Call
   close : Call
 
--- The event, and the bytes that a feed consumed.
-pub record Answer : Type 0 where
-  pub event : Event
-  pub used : ℕ
+-- What the book takes of a call and its answer.
+pub data Entry : Type 0 where
+  fed : (piece : List ℕ) → Outcome Event → (consumed : ℕ) → Entry
+  completed : (ticket : ℕ) → Outcome ℕ → Entry
+  closing : Outcome (List ℕ) → Entry
 
 -- ## The book
 
@@ -46,6 +50,12 @@ pub record Book : Type 0 where
 abbrev pub opened : Bool → Book
 opened good = record { items = []; closed = not good; part = [] }
 
+abbrev pub withPart : List ℕ → Book → Book
+withPart m b = record { items = b .items; closed = b .closed; part = m }
+
+abbrev pub took : Book → List ℕ → Book
+took b xs = withPart (b .part ++ xs) b
+
 abbrev pub settled : Bool → End → Item → Item
 settled true e i = item (i .urb) (over e)
 settled false e i = i
@@ -59,7 +69,14 @@ abbrev pub markAll : List ℕ → List Item → List Item
 markAll [] is = is
 markAll (t ∷ ts) is = markAll ts (mark t dropped is)
 
--- The six steps.
+-- The steps: a new item; an item's end; the end of the listed ones and of the session; the end of the session; nothing.
+pub data Effect : Type 0 where
+  add : Urb → Effect
+  settle : ℕ → End → Effect
+  drop-all : List ℕ → Effect
+  shut : Effect
+  nothing : Effect
+
 abbrev pub apply : Book → Effect → Book
 apply b (add u) = record { items = b .items ++ (item u pending ∷ []); closed = b .closed; part = b .part }
 apply b (settle t e) = record { items = mark t e (b .items); closed = b .closed; part = b .part }
@@ -67,33 +84,31 @@ apply b (drop-all ts) = record { items = markAll ts (b .items); closed = true; p
 apply b shut = record { items = b .items; closed = true; part = b .part }
 apply b nothing = b
 
--- Answers after which no message is in progress: those that end one, and the end of the session.
-abbrev pub ends : Event → Bool
-ends hungry = false
-ends list = true
-ends (import st) = true
-ends (submit u) = true
-ends (answer q st) = true
-ends (unlink q st t) = true
-ends (break n ts) = true
-ends (refusal n) = false
-ends (return n) = false
-ends (end ts) = true
+-- The step of a feed's event.
+abbrev pub removal : Option ℕ → Effect
+removal none = nothing
+removal (some t) = settle t unlinked
 
-abbrev pub cleared : Bool → Book → Book
-cleared true b = record { items = b .items; closed = b .closed; part = [] }
-cleared false b = b
+abbrev pub effectOf : Event → Effect
+effectOf hungry = nothing
+effectOf list = shut
+effectOf (import st) = cond (eqb st 0) nothing shut
+effectOf (submit u) = add u
+effectOf (answer q st) = nothing
+effectOf (unlink q st t) = removal t
+effectOf (break f ts) = drop-all ts
 
-abbrev pub took : Book → List ℕ → Book
-took b xs = record { items = b .items; closed = b .closed; part = b .part ++ xs }
+-- An event other than hungry ends the message.
+abbrev pub keepEvent : Book → Event → Book
+keepEvent b e = let next = apply b (effectOf e) in cond (isHungry e) next (withPart [] next)
 
-abbrev pub keepEvent : Book → ℕ → Event → Book
-keepEvent b given e = cleared (ends e) (apply b (effectOf given e))
-
-abbrev pub keep : Book → Call → Answer → Book
-keep b (feed piece lent) a = keepEvent (took b (take (a .used) piece)) 0 (a .event)
-keep b (complete c) a = keepEvent b (c .ticket) (a .event)
-keep b close a = keepEvent b 0 (a .event)
+abbrev pub keep : Book → Entry → Book
+keep b (fed piece (refused n) consumed) = b
+keep b (fed piece (done e) consumed) = keepEvent (took b (take consumed piece)) e
+keep b (completed ticket (refused n)) = b
+keep b (completed ticket (done wire)) = apply b (settle ticket returned)
+keep b (closing (refused n)) = b
+keep b (closing (done ts)) = withPart [] (apply b (drop-all ts))
 
 -- ## What it says
 
@@ -106,9 +121,20 @@ abbrev pub pendingOf : List Item → List Urb
 pendingOf [] = []
 pendingOf (i ∷ is) = ifPending (i .fate) (i .urb) (pendingOf is)
 
+abbrev pub sameEnd : End → End → ℕ
+sameEnd returned returned = 1
+sameEnd returned unlinked = 0
+sameEnd returned dropped = 0
+sameEnd unlinked returned = 0
+sameEnd unlinked unlinked = 1
+sameEnd unlinked dropped = 0
+sameEnd dropped returned = 0
+sameEnd dropped unlinked = 0
+sameEnd dropped dropped = 1
+
 abbrev pub isEnd : End → Fate → ℕ
 isEnd e pending = 0
-isEnd e (over d) = same d e
+isEnd e (over d) = sameEnd d e
 
 -- How many items have a fate.
 abbrev pub count : End → List Item → ℕ
@@ -124,8 +150,8 @@ abbrev pub Pending : List Item → Urb → Type 0
 Pending is u = List·Memᴰ (item u pending) is
 
 -- A pending item has a key; none has it.
-abbrev pub Some : List Item → (Urb → ℕ) → ℕ → Type 0
-Some is key k = (u : Urb) × Pending is u × (key u ≡ k)
+abbrev pub SomePending : List Item → (Urb → ℕ) → ℕ → Type 0
+SomePending is key k = (u : Urb) × Pending is u × (key u ≡ k)
 
-abbrev pub None : List Item → (Urb → ℕ) → ℕ → Type 0
-None is key k = (u : Urb) → Pending is u → key u ≡ k → ⊥
+abbrev pub NonePending : List Item → (Urb → ℕ) → ℕ → Type 0
+NonePending is key k = (u : Urb) → Pending is u → key u ≡ k → ⊥

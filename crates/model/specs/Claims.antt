@@ -1,4 +1,4 @@
--- Demand 3: one claim about every list of calls, by the book before each call.
+-- Demand 3: one claim about every list of calls, by the book before each call (PROTOCOL.md, 5 to 7).
 use Prim.Native.Nat.{ℕ, zero, suc, _+_, _*_, _-_, _≤_, _<_}
 use mathlib.Core.Path.{_≡_}
 use mathlib.Core.Bool.{Bool, true, false, cond}
@@ -10,75 +10,91 @@ use lib.ListN.{length, take, drop, getD}
 use lib.Seq.{sets}
 use Rattle.wire.specs.Codes
 use Rattle.wire.specs.Status.{minus}
-use Rattle.messages.specs.Messages.{requestOf, busidOf, commandOf, submitOf, unlinkOf, retSubmit, retUnlink}
-use Rattle.messages.specs.declared.message.Submit.{Submit}
-use Rattle.wire.specs.Writing.{over}
+use Rattle.ground.specs.Writing.{over}
+use Rattle.messages.specs.Messages.{requestOf, busidOf, headerOf, unlinkSeqnumOf, retSubmit, retUnlink}
+use Rattle.messages.specs.declared.message.Header.{Header}
+use Rattle.messages.specs.declared.message.Transfer.{Transfer}
 use Rattle.exports.specs.Devices.{noDevice, devicesOf}
-use Rattle.lookup.specs.Lookup.{First, None as NoDevice}
 use Rattle.exports.specs.declared.device.Table.{Table}
+use Rattle.lookup.specs.Lookup.{FirstDevice, NoDevice}
 use Rattle.importing.specs.Imports.{importReply, importRefusal}
 use Rattle.listing.specs.Lists.{listReply}
 use Rattle.transmit.specs.Part.{wireLength}
-use Rattle.pending.specs.Pending.{ticketOf, seqnumOf, tickets, without, Rising}
-use Rattle.verdicts.specs.Limits
-use Rattle.verdicts.specs.Rows.{Row, row, Gives, Clear}
+use Rattle.pending.specs.Pending.{ticketOf, seqnumOf, tickets, without}
+use Rattle.ground.specs.Lists.{Rising}
+use Rattle.pending.specs.declared.urb.Urb.{Urb}
+use Rattle.limits.specs.Limits
+use Rattle.ground.specs.Rows.{Row, row, Gives, Clear}
 use Rattle.verdicts.specs.Verdicts
 use Rattle.verdicts.specs.Verdicts.{Not}
 use Rattle.verdicts.specs.declared.verdict.Completing.{Completing}
-use Rattle.model.specs.Model.{Sess, numbersOf, closed, Event, hungry, list, import, submit, answer, unlink, break, refusal, return, end}
-use Rattle.model.specs.Model.{End, returned, unlinked, dropped, urbOf, Buffers, Completion, feedOf, completeOf, closeOf, openOf}
+use Rattle.verdicts.specs.declared.verdict.Fault.{Fault}
+use Rattle.model.specs.State.{partly, headed, Sess, closed, numbersOf, End, returned, unlinked, dropped}
+use Rattle.model.specs.Answers.{Outcome, refused, done, Event, hungry, list, import, submit, answer, unlink, break, isHungry}
+use Rattle.model.specs.Judging.{urbOf}
+use Rattle.model.specs.Acts.{Buffers, Completion, feedOf, completeOf, closeOf, openOf}
 use Rattle.model.specs.Cut.{written}
-use Rattle.model.specs.Book.{Call, feed, complete, close, Answer, Book, opened, Item, item, pending, over as ended, keep, pendingOf, count, countsOf, Pending, Some, None}
-use Rattle.pending.specs.declared.urb.Urb.{Urb}
+use Rattle.model.specs.Book.{Call, feed, complete, close, Entry, fed, completed, closing, Book, opened, keep, Item, item, pending, over as past}
+use Rattle.model.specs.Book.{pendingOf, count, countsOf, Pending, SomePending, NonePending}
 
 -- ## What the acts give
 
-abbrev pub answerTo : Sess → Call → Answer
-answerTo s (feed p lent) = record { event = feedOf s lent p .event; used = feedOf s lent p .used }
-answerTo s (complete c) = record { event = completeOf s c .event; used = 0 }
-answerTo s close = record { event = closeOf s .event; used = 0 }
+abbrev pub entryOf : Sess → Call → Entry
+entryOf s (feed p lent) = let r = feedOf s lent p in fed p (r .event) (r .consumed)
+entryOf s (complete c) = completed (c .ticket) (completeOf s c .answer)
+entryOf s close = closing (closeOf s .answer)
 
 abbrev pub nextOf : Sess → Call → Sess
 nextOf s (feed p lent) = feedOf s lent p .next
 nextOf s (complete c) = completeOf s c .next
 nextOf s close = closeOf s .next
 
--- ## "When the box says no", by the book
+-- ## When the session says no, by the book
 
 -- A message's header: its first 48 bytes, or all of a shorter one.
 abbrev pub header : List ℕ → List ℕ
 header m = take Codes.HEADER-LEN m
 
-abbrev pub feedRows : Book → Buffers → List Row
-feedRows b lent = Verdicts.feedRows (b .closed ≡ true) (length (lent .work)) (length (lent .reply))
+abbrev pub feedRowsBy : Book → Buffers → List (Row ℕ)
+feedRowsBy b lent = Verdicts.feedRows (b .closed ≡ true) (length (lent .work)) (length (lent .reply))
 
--- The pending item that has a ticket has a record with P.
-abbrev pub Holder : List Item → ℕ → (Urb → Type 0) → Type 0
-Holder is t P = (u : Urb) × Pending is u × (ticketOf u ≡ t) × P u
+-- The pending item that has a ticket has a transfer with P.
+abbrev pub Holder : List Item → ℕ → (Transfer → Type 0) → Type 0
+Holder is t P = (u : Urb) × Pending is u × (ticketOf u ≡ t) × P (u .transfer)
 
 -- What the device side hands over, as the rows ask of it; the rest of what they ask is asked of the book.
-abbrev pub handed : Completion → Completing
-handed c = record { closed = false; header = length (c .header); found = false; status = c .status; actual = c .actual; frame = length (c .frame); length = 0; direction = 0 }
+abbrev pub handedOver : Completion → Completing
+handedOver c =
+    record {
+      closed = false;
+      header = length (c .header);
+      found = false;
+      status = c .status;
+      actual = c .actual;
+      payload = length (c .payload);
+      length = 0;
+      direction = 0;
+    }
 
-abbrev pub completeRows : Book → Completion → List Row
-completeRows b c =
-    Verdicts.completeRows (handed c) (b .closed ≡ true) (None (b .items) ticketOf (c .ticket))
-    (λ P. Holder (b .items) (c .ticket) (λ u. P (u .transfer .length) (u .transfer .direction)))
+abbrev pub completionRowsBy : Book → Completion → List (Row ℕ)
+completionRowsBy b c =
+    Verdicts.completionRows (handedOver c) (b .closed ≡ true) (NonePending (b .items) ticketOf (c .ticket))
+    (λ P. Holder (b .items) (c .ticket) (λ u. P (u .length) (u .direction)))
 
-abbrev pub closeRows : Book → List Row
-closeRows b = row Limits.SESSION-CLOSED (b .closed ≡ true) ∷ []
+abbrev pub closeRowsBy : Book → List (Row ℕ)
+closeRowsBy b = row Limits.SESSION-CLOSED (b .closed ≡ true) ∷ []
 
 -- Of a request's 8 bytes.
-abbrev pub requestRows : List ℕ → List Row
-requestRows h = Verdicts.requestRows (requestOf h)
+abbrev pub requestRowsBy : List ℕ → List (Row Fault)
+requestRowsBy h = Verdicts.requestRows (requestOf h)
 
 -- Of a message's 48 bytes.
-abbrev pub messageRows : List Item → List ℕ → List Row
-messageRows is h = Verdicts.messageRows (commandOf h) (submitOf h) (Some is seqnumOf (submitOf h .seqnum))
+abbrev pub headerRowsBy : List Item → List ℕ → List (Row Fault)
+headerRowsBy is h = Verdicts.headerRows (headerOf h) (SomePending is seqnumOf (headerOf h .transfer .seqnum))
 
 -- Of a whole submit, by status; the devid is that of the device that this run's import named.
-abbrev pub submitRows : ℕ → List Item → List ℕ → List Row
-submitRows devid is h = Verdicts.submitRows (submitOf h) devid (length (pendingOf is)) (length is)
+abbrev pub submitRowsBy : ℕ → List Item → List ℕ → List (Row ℕ)
+submitRowsBy devid is h = Verdicts.submitRows (headerOf h) devid (length (pendingOf is)) (length is)
 
 -- ## What each event says of the bytes consumed for its message, by the items of the book before the call
 
@@ -86,95 +102,90 @@ submitRows devid is h = Verdicts.submitRows (submitOf h) devid (length (pendingO
 abbrev pub RightRequest : Table → List Item → List ℕ → Event → Type 0
 RightRequest t is m hungry =
     (length m < Codes.OP-LEN)
-    ⊎ ((Codes.OP-LEN ≤ length m) × (length m < Codes.OP-LEN + Codes.BUSID-LEN) × Clear (requestRows (header m)) × (requestOf (header m) .code ≡ Codes.OP-REQ-IMPORT))
-RightRequest t is m list = (length m ≡ Codes.OP-LEN) × Clear (requestRows (header m)) × (requestOf (header m) .code ≡ Codes.OP-REQ-DEVLIST)
+    ⊎ ((Codes.OP-LEN ≤ length m) × (length m < Codes.OP-LEN + Codes.BUSID-LEN)
+    × Clear (requestRowsBy (header m)) × (requestOf (header m) .code ≡ Codes.OP-REQ-IMPORT))
+RightRequest t is m list = (length m ≡ Codes.OP-LEN) × Clear (requestRowsBy (header m)) × (requestOf (header m) .code ≡ Codes.OP-REQ-DEVLIST)
 RightRequest t is m (import st) =
     (length m ≡ Codes.OP-LEN + Codes.BUSID-LEN)
-    × Clear (requestRows (header m))
+    × Clear (requestRowsBy (header m))
     × (requestOf (header m) .code ≡ Codes.OP-REQ-IMPORT)
-    × (((st ≡ 0) × (i : ℕ) × First (devicesOf t) (busidOf (header m)) i) ⊎ ((st ≡ 1) × NoDevice (devicesOf t) (busidOf (header m))))
+    × (((st ≡ 0) × (i : ℕ) × FirstDevice (devicesOf t) (busidOf (header m)) i) ⊎ ((st ≡ 1) × NoDevice (devicesOf t) (busidOf (header m))))
 RightRequest t is m (submit u) = ⊥
 RightRequest t is m (answer q st) = ⊥
 RightRequest t is m (unlink q st o) = ⊥
-RightRequest t is m (break n ts) = (length m ≡ Codes.OP-LEN) × Gives (requestRows (header m)) n × (ts ≡ tickets (pendingOf is))
-RightRequest t is m (refusal n) = ⊥
-RightRequest t is m (return n) = ⊥
-RightRequest t is m (end ts) = ⊥
+RightRequest t is m (break f ts) = (length m ≡ Codes.OP-LEN) × Gives (requestRowsBy (header m)) f × (ts ≡ tickets (pendingOf is))
 
 -- How long a message is, by its header: "with direction 0 (OUT) the data follows".
-abbrev pub sizeOf : List ℕ → ℕ
-sizeOf h = Codes.HEADER-LEN + cond (eqb (submitOf h .direction) Codes.DIR-OUT) (submitOf h .length) 0
+abbrev pub messageLen : List ℕ → ℕ
+messageLen h = let u = headerOf h .transfer in Codes.HEADER-LEN + cond (eqb (u .direction) Codes.DIR-OUT) (u .length) 0
 
 -- The record of an accepted submit: a ticket, and every field "as the bytes consumed for it say".
-abbrev pub Carries : ℕ → Submit → Urb → Type 0
-Carries ticket x u =
-    (u .transfer .ticket ≡ ticket)
-    × (u .transfer .seqnum ≡ x .seqnum)
-    × (u .transfer .direction ≡ x .direction)
-    × (u .transfer .ep ≡ x .ep)
-    × (u .transfer .flags ≡ x .flags)
-    × (u .transfer .length ≡ x .length)
-    × (u .transfer .frame ≡ x .frame)
-    × (u .transfer .packets ≡ x .packets)
-    × (u .transfer .interval ≡ x .interval)
-    × (u .setup ≡ x .setup)
+abbrev pub Carries : ℕ → Header → Urb → Type 0
+Carries ticket h u =
+    (u .ticket ≡ ticket)
+    × (u .transfer .seqnum ≡ h .transfer .seqnum)
+    × (u .transfer .direction ≡ h .transfer .direction)
+    × (u .transfer .ep ≡ h .transfer .ep)
+    × (u .transfer .flags ≡ h .transfer .flags)
+    × (u .transfer .length ≡ h .transfer .length)
+    × (u .transfer .start ≡ h .transfer .start)
+    × (u .transfer .packets ≡ h .transfer .packets)
+    × (u .transfer .interval ≡ h .transfer .interval)
+    × (u .setup ≡ h .setup)
 
 -- What an unlink removes: the pending item that has the seqnum, and none only where there is none.
 abbrev pub Removes : List Item → ℕ → ℕ → Option ℕ → Type 0
-Removes is q st none = (st ≡ 0) × None is seqnumOf q
+Removes is q st none = (st ≡ 0) × NonePending is seqnumOf q
 Removes is q st (some t) = (st ≡ minus Codes.ECONNRESET) × ((u : Urb) × Pending is u × (seqnumOf u ≡ q) × (ticketOf u ≡ t))
 
 abbrev pub RightMessage : ℕ → List Item → List ℕ → Event → Type 0
 RightMessage devid is m hungry =
     (length m < Codes.HEADER-LEN)
-    ⊎ ((Codes.HEADER-LEN ≤ length m) × Clear (messageRows is (header m)) × (commandOf (header m) ≡ Codes.CMD-SUBMIT) × (length m < sizeOf (header m)))
+    ⊎ ((Codes.HEADER-LEN ≤ length m) × Clear (headerRowsBy is (header m))
+    × (headerOf (header m) .command ≡ Codes.CMD-SUBMIT) × (length m < messageLen (header m)))
 RightMessage devid is m list = ⊥
 RightMessage devid is m (import st) = ⊥
 RightMessage devid is m (submit u) =
-    (length m ≡ sizeOf (header m))
-    × Clear (messageRows is (header m))
-    × (commandOf (header m) ≡ Codes.CMD-SUBMIT)
-    × Clear (submitRows devid is (header m))
-    × (u ≡ urbOf (suc (length is)) (header m))
-    × Carries (suc (length is)) (submitOf (header m)) u
+    (length m ≡ messageLen (header m))
+    × Clear (headerRowsBy is (header m))
+    × (headerOf (header m) .command ≡ Codes.CMD-SUBMIT)
+    × Clear (submitRowsBy devid is (header m))
+    × (u ≡ urbOf (suc (length is)) (headerOf (header m)))
+    × Carries (suc (length is)) (headerOf (header m)) u
 RightMessage devid is m (answer q st) =
-    (length m ≡ sizeOf (header m))
-    × Clear (messageRows is (header m))
-    × (commandOf (header m) ≡ Codes.CMD-SUBMIT)
-    × Gives (submitRows devid is (header m)) st
-    × (q ≡ submitOf (header m) .seqnum)
+    (length m ≡ messageLen (header m))
+    × Clear (headerRowsBy is (header m))
+    × (headerOf (header m) .command ≡ Codes.CMD-SUBMIT)
+    × Gives (submitRowsBy devid is (header m)) st
+    × (q ≡ headerOf (header m) .transfer .seqnum)
 RightMessage devid is m (unlink q st o) =
     (length m ≡ Codes.HEADER-LEN)
-    × (commandOf (header m) ≡ Codes.CMD-UNLINK)
-    × (q ≡ unlinkOf (header m) .seqnum)
-    × Removes is (unlinkOf (header m) .target) st o
-RightMessage devid is m (break n ts) = (length m ≡ Codes.HEADER-LEN) × Gives (messageRows is (header m)) n × (ts ≡ tickets (pendingOf is))
-RightMessage devid is m (refusal n) = ⊥
-RightMessage devid is m (return n) = ⊥
-RightMessage devid is m (end ts) = ⊥
+    × (headerOf (header m) .command ≡ Codes.CMD-UNLINK)
+    × (q ≡ headerOf (header m) .transfer .seqnum)
+    × Removes is (unlinkSeqnumOf (header m)) st o
+RightMessage devid is m (break f ts) = (length m ≡ Codes.HEADER-LEN) × Gives (headerRowsBy is (header m)) f × (ts ≡ tickets (pendingOf is))
 
 abbrev pub byPhase : Bool → Type 0 → Type 0 → Type 0
 byPhase true waiting attached = waiting
 byPhase false waiting attached = attached
 
--- ## What each event of a feed writes
+-- ## What a feed writes
 
 -- The bytes of the reply, by the bytes m of the message: none for hungry, an accepted submit, a break and a refusal. A refused
 -- submit is answered by a RET_SUBMIT with actual_length 0, start_frame and number_of_packets copied from it.
-abbrev pub Replies : Table → List ℕ → Event → (bytes : List ℕ) → Type 0
-Replies t m hungry bytes = bytes ≡ []
-Replies t m list bytes = bytes ≡ listReply t
-Replies t m (import zero) bytes = (i : ℕ) × First (devicesOf t) (busidOf (header m)) i × (bytes ≡ importReply (getD (devicesOf t) i noDevice))
-Replies t m (import (suc st)) bytes = bytes ≡ importRefusal
-Replies t m (submit u) bytes = bytes ≡ []
-Replies t m (answer q st) bytes =
-    let u = submitOf (header m) in
-    bytes ≡ retSubmit (record { seqnum = q; status = st; actual = 0; frame = u .frame; packets = u .packets })
-Replies t m (unlink q st o) bytes = bytes ≡ retUnlink (record { seqnum = q; status = st })
-Replies t m (break n ts) bytes = bytes ≡ []
-Replies t m (refusal n) bytes = bytes ≡ []
-Replies t m (return n) bytes = bytes ≡ []
-Replies t m (end ts) bytes = bytes ≡ []
+abbrev pub Replies : Table → List ℕ → Outcome Event → (bytes : List ℕ) → Type 0
+Replies t m (refused n) bytes = bytes ≡ []
+Replies t m (done hungry) bytes = bytes ≡ []
+Replies t m (done list) bytes = bytes ≡ listReply t
+Replies t m (done (import zero)) bytes =
+    (i : ℕ) × FirstDevice (devicesOf t) (busidOf (header m)) i × (bytes ≡ importReply (getD (devicesOf t) i noDevice))
+Replies t m (done (import (suc st))) bytes = bytes ≡ importRefusal
+Replies t m (done (submit u)) bytes = bytes ≡ []
+Replies t m (done (answer q st)) bytes =
+    let u = headerOf (header m) .transfer in
+    bytes ≡ retSubmit (record { seqnum = q; status = st; actual = 0; start = u .start; packets = u .packets })
+Replies t m (done (unlink q st o)) bytes = bytes ≡ retUnlink (record { seqnum = q; status = st })
+Replies t m (done (break f ts)) bytes = bytes ≡ []
 
 -- "OUT data goes to the work buffer at its own position from 0 as it comes": of the bytes xs that come behind a part of a message,
 -- the data are those past the 48th of the message, and their place is how many such there were before.
@@ -188,38 +199,44 @@ placeOf part = length part - Codes.HEADER-LEN
 
 pub record RightFeed (s : Sess) (b : Book) (piece : List ℕ) (lent : Buffers) : Type 0 where
   -- refused exactly by the table, with nothing consumed and nothing changed
-  pub refused : (n : ℕ) → feedOf s lent piece .event ≡ refusal n
-      → Gives (feedRows b lent) n × (feedOf s lent piece .used ≡ 0) × (feedOf s lent piece .buffers ≡ lent) × (feedOf s lent piece .next ≡ s)
+  pub refuses : (n : ℕ) → feedOf s lent piece .event ≡ refused n
+      → Gives (feedRowsBy b lent) n × (feedOf s lent piece .consumed ≡ 0) × (feedOf s lent piece .buffers ≡ lent) × (feedOf s lent piece .next ≡ s)
   -- else the event is right by the bytes consumed for its message
-  pub told : ((n : ℕ) → feedOf s lent piece .event ≡ refusal n → ⊥)
-      → Clear (feedRows b lent)
-      × (let r = feedOf s lent piece in
-      let m = b .part ++ take (r .used) piece in
-      byPhase (eqb (s .phase) Limits.WAITING) (RightRequest (s .table) (b .items) m (r .event)) (RightMessage (s .devid) (b .items) m (r .event)))
+  pub right : (e : Event) → feedOf s lent piece .event ≡ done e
+      → Clear (feedRowsBy b lent)
+      × (let m = b .part ++ take (feedOf s lent piece .consumed) piece in
+      byPhase (eqb (s .link .phase) Limits.WAITING) (RightRequest (s .table) (b .items) m e) (RightMessage (s .link .devid) (b .items) m e))
   -- a hungry feed consumed all
-  pub all : feedOf s lent piece .event ≡ hungry → feedOf s lent piece .used ≡ length piece
+  pub all : feedOf s lent piece .event ≡ done hungry → feedOf s lent piece .consumed ≡ length piece
   -- "A reply starts at 0 of the reply buffer; bytes past it don't change", and the answer gives its length
   pub reply : let r = feedOf s lent piece in
       (bytes : List ℕ)
-      × Replies (s .table) (b .part ++ take (r .used) piece) (r .event) bytes
+      × Replies (s .table) (b .part ++ take (r .consumed) piece) (r .event) bytes
       × (r .buffers .reply ≡ over bytes (lent .reply))
       × (written s piece r ≡ length bytes)
   -- the work buffer at exit: the data that this call consumed; "nothing else is written there"
-  pub work : let r = feedOf s lent piece in r .buffers .work ≡ sets (lent .work) (placeOf (b .part)) (dataIn (b .part) (take (r .used) piece))
+  pub work : let r = feedOf s lent piece in
+      r .buffers .work ≡ sets (lent .work) (placeOf (b .part)) (dataIn (b .part) (take (r .consumed) piece))
+
+-- The reply to the completion of a URB: RET_SUBMIT under the URB's own seqnum.
+abbrev pub headerFor : Urb → Completion → List ℕ
+headerFor u c =
+    retSubmit (record { seqnum = seqnumOf u; status = c .status; actual = c .actual; start = u .transfer .start; packets = u .transfer .packets })
 
 pub record RightComplete (s : Sess) (b : Book) (c : Completion) : Type 0 where
-  pub refused : (n : ℕ) → completeOf s c .event ≡ refusal n → Gives (completeRows b c) n × (completeOf s c .header ≡ c .header) × (completeOf s c .next ≡ s)
-  pub accepted : ((n : ℕ) → completeOf s c .event ≡ refusal n → ⊥)
-      → Clear (completeRows b c)
+  pub refuses : (n : ℕ) → completeOf s c .answer ≡ refused n
+      → Gives (completionRowsBy b c) n × (completeOf s c .header ≡ c .header) × (completeOf s c .next ≡ s)
+  pub accepts : (wire : ℕ) → completeOf s c .answer ≡ done wire
+      → Clear (completionRowsBy b c)
       × ((u : Urb)
       × Pending (b .items) u
       × (ticketOf u ≡ c .ticket)
-      × (completeOf s c .event ≡ return (wireLength (u .transfer .direction) (c .actual)))
-      × (completeOf s c .header ≡ over (retSubmit (record { seqnum = seqnumOf u; status = c .status; actual = c .actual; frame = u .transfer .frame; packets = u .transfer .packets })) (c .header)))
+      × (wire ≡ wireLength (u .transfer .direction) (c .actual))
+      × (completeOf s c .header ≡ over (headerFor u c) (c .header)))
 
 pub record RightClose (s : Sess) (b : Book) : Type 0 where
-  pub refused : (n : ℕ) → closeOf s .event ≡ refusal n → Gives (closeRows b) n × (closeOf s .next ≡ s)
-  pub accepted : ((n : ℕ) → closeOf s .event ≡ refusal n → ⊥) → Clear (closeRows b) × (closeOf s .event ≡ end (tickets (pendingOf (b .items))))
+  pub refuses : (n : ℕ) → closeOf s .answer ≡ refused n → Gives (closeRowsBy b) n × (closeOf s .next ≡ s)
+  pub accepts : (ts : List ℕ) → closeOf s .answer ≡ done ts → Clear (closeRowsBy b) × (ts ≡ tickets (pendingOf (b .items)))
 
 abbrev pub Right : Sess → Book → Call → Type 0
 Right s b (feed p lent) = RightFeed s b p lent
@@ -229,9 +246,9 @@ Right s b close = RightClose s b
 -- ## The session and the book
 
 -- The tickets are k, k + 1, ..
-abbrev pub Tickets : ℕ → List Item → Type 0
-Tickets k [] = Unit
-Tickets k (i ∷ is) = (ticketOf (i .urb) ≡ k) × Tickets (suc k) is
+abbrev pub Counted : ℕ → List Item → Type 0
+Counted k [] = Unit
+Counted k (i ∷ is) = (ticketOf (i .urb) ≡ k) × Counted (suc k) is
 
 -- No two are equal.
 abbrev pub Apart : ℕ → List ℕ → Type 0
@@ -247,19 +264,19 @@ pub record Agrees (s : Sess) (b : Book) : Type 0 where
   pub pending : s .pend ≡ pendingOf (b .items)
   pub numbers : numbersOf s ≡ countsOf (b .items)
   pub sum : let n = countsOf (b .items) in n .accepted ≡ n .pending + n .returned + n .unlinked + n .dropped
-  pub counted : Tickets 1 (b .items)
+  pub counted : Counted 1 (b .items)
   -- so a list of those that are pending has each once, "lowest first"
   pub rising : Rising (tickets (pendingOf (b .items)))
   pub seqnums : Distinct (map seqnumOf (pendingOf (b .items)))
   pub none-closed : b .closed ≡ true → pendingOf (b .items) ≡ []
-  pub none-waiting : s .phase ≡ Limits.WAITING → b .items ≡ []
+  pub none-waiting : s .link .phase ≡ Limits.WAITING → b .items ≡ []
   -- the message in progress is what was consumed for it
-  pub head : s .head ≡ take Codes.HEADER-LEN (b .part)
-  pub body : s .body ≡ length (b .part) - Codes.HEADER-LEN
+  pub heading : length (b .part) < Codes.HEADER-LEN → s .link .message ≡ partly (b .part)
+  pub bodied : Codes.HEADER-LEN ≤ length (b .part) → s .link .message ≡ headed (headerOf (header (b .part))) (length (b .part) - Codes.HEADER-LEN)
 
 -- Each item keeps its record, and its fate unless that was pending; new ones come behind.
 abbrev pub Kept : Item → Item → Type 0
-Kept i j = (i .urb ≡ j .urb) × ((e : End) → i .fate ≡ ended e → j .fate ≡ ended e)
+Kept i j = (i .urb ≡ j .urb) × ((e : End) → i .fate ≡ past e → j .fate ≡ past e)
 
 abbrev pub Grown : List Item → List Item → Type 0
 Grown [] js = Unit
@@ -271,98 +288,95 @@ Grown (i ∷ is) (j ∷ js) = Kept i j × Grown is js
 -- "that item unlinked", "the given ticket's item returned": it was pending and has its end now. The other pending ones stay as
 -- they were, in order; no item is added; one more has that end.
 pub record Settled (t : ℕ) (e : End) (is js : List Item) : Type 0 where
-  pub was : Some is ticketOf t
-  pub ends : (u : Urb) → Pending is u → ticketOf u ≡ t → List·Memᴰ (item u (ended e)) js
+  pub was : SomePending is ticketOf t
+  pub ends : (u : Urb) → Pending is u → ticketOf u ≡ t → List·Memᴰ (item u (past e)) js
   pub others : pendingOf js ≡ without t (pendingOf is)
   pub long : length js ≡ length is
   pub more : count e js ≡ suc (count e is)
 
 -- "the listed items dropped", which are all the pending ones: none is pending then; no item is added; as many more are dropped.
 pub record Emptied (is js : List Item) : Type 0 where
-  pub ends : (u : Urb) → Pending is u → List·Memᴰ (item u (ended dropped)) js
+  pub ends : (u : Urb) → Pending is u → List·Memᴰ (item u (past dropped)) js
   pub others : pendingOf js ≡ []
   pub long : length js ≡ length is
   pub more : count dropped js ≡ count dropped is + length (pendingOf is)
 
--- The steps of the book, by the event alone; `Grown` says besides that no item changes but a pending one. An accepted submit adds
+-- The steps of the book, by the answer alone; `Grown` says besides that no item changes but a pending one. An accepted submit adds
 -- one item, "as answered, pending", at the end, and nothing else adds one; "all else, refusals too: nothing".
-abbrev pub Moves : List Item → (given : ℕ) → Event → List Item → Type 0
-Moves is given hungry js = js ≡ is
-Moves is given list js = js ≡ is
-Moves is given (import st) js = js ≡ is
-Moves is given (submit u) js = js ≡ is ++ (item u pending ∷ [])
-Moves is given (answer q st) js = js ≡ is
-Moves is given (unlink q st none) js = js ≡ is
-Moves is given (unlink q st (some t)) js = Settled t unlinked is js
-Moves is given (break n ts) js = Emptied is js
-Moves is given (refusal n) js = js ≡ is
-Moves is given (return n) js = Settled given returned is js
-Moves is given (end ts) js = Emptied is js
-
--- The ticket that a completion is given; the other calls have none.
-abbrev pub givenIn : Call → ℕ
-givenIn (feed p lent) = 0
-givenIn (complete c) = c .ticket
-givenIn close = 0
+abbrev pub Moves : List Item → Entry → List Item → Type 0
+Moves is (fed p (refused n) k) js = js ≡ is
+Moves is (fed p (done hungry) k) js = js ≡ is
+Moves is (fed p (done list) k) js = js ≡ is
+Moves is (fed p (done (import st)) k) js = js ≡ is
+Moves is (fed p (done (submit u)) k) js = js ≡ is ++ (item u pending ∷ [])
+Moves is (fed p (done (answer q st)) k) js = js ≡ is
+Moves is (fed p (done (unlink q st none)) k) js = js ≡ is
+Moves is (fed p (done (unlink q st (some t))) k) js = Settled t unlinked is js
+Moves is (fed p (done (break f ts)) k) js = Emptied is js
+Moves is (completed t (refused n)) js = js ≡ is
+Moves is (completed t (done wire)) js = Settled t returned is js
+Moves is (closing (refused n)) js = js ≡ is
+Moves is (closing (done ts)) js = Emptied is js
 
 -- ## What a call does to the message in progress
 
--- m: the bytes consumed for it before the call and in it. "whatever calls came between": a refusal and a completion leave it as
--- it was before.
-abbrev pub Parts : (before m : List ℕ) → Event → List ℕ → Type 0
-Parts before m hungry now = now ≡ m
-Parts before m list now = now ≡ []
-Parts before m (import st) now = now ≡ []
-Parts before m (submit u) now = now ≡ []
-Parts before m (answer q st) now = now ≡ []
-Parts before m (unlink q st o) now = now ≡ []
-Parts before m (break n ts) now = now ≡ []
-Parts before m (refusal n) now = now ≡ before
-Parts before m (return n) now = now ≡ before
-Parts before m (end ts) now = now ≡ []
+-- The bytes consumed for it, before the call and in it.
+abbrev pub consumedFor : List ℕ → Entry → List ℕ
+consumedFor part (fed p o k) = part ++ take k p
+consumedFor part (completed t o) = part
+consumedFor part (closing o) = part
+
+-- "whatever calls came between": a refusal and a completion leave it as it was before; an event other than hungry ends it, and so does
+-- a close.
+abbrev pub Progresses : (before : List ℕ) → Entry → (now : List ℕ) → Type 0
+Progresses before (fed p (refused n) k) now = now ≡ before
+Progresses before (fed p (done e) k) now = (isHungry e ≡ true → now ≡ before ++ take k p) × (isHungry e ≡ false → now ≡ [])
+Progresses before (completed t o) now = now ≡ before
+Progresses before (closing (refused n)) now = now ≡ before
+Progresses before (closing (done ts)) now = now ≡ []
 
 -- ## The device
 
 -- Which device is attached, with the phase: the one that an import named, until the end. Its devid is busnum x 65,536 + devnum.
 abbrev pub Stays : ℕ → ℕ → Sess → Type 0
-Stays phase devid next = (next .phase ≡ phase) × (next .devid ≡ devid)
+Stays phase devid next = (next .link .phase ≡ phase) × (next .link .devid ≡ devid)
 
-abbrev pub Attaches : Table → ℕ → ℕ → List ℕ → Event → Sess → Type 0
-Attaches t phase devid m (import zero) next =
-    (next .phase ≡ Limits.ATTACHED)
+-- m: the bytes consumed for the message.
+abbrev pub AttachesBy : Table → ℕ → ℕ → List ℕ → Event → Sess → Type 0
+AttachesBy t phase devid m (import zero) next =
+    (next .link .phase ≡ Limits.ATTACHED)
     × (i : ℕ)
-    × First (devicesOf t) (busidOf (header m)) i
-    × (let d = getD (devicesOf t) i noDevice in next .devid ≡ d .busnum * 65536 + d .devnum)
-Attaches t phase devid m (import (suc st)) next = Stays Limits.CLOSED devid next
-Attaches t phase devid m hungry next = Stays phase devid next
-Attaches t phase devid m list next = Stays Limits.CLOSED devid next
-Attaches t phase devid m (submit u) next = Stays phase devid next
-Attaches t phase devid m (answer q st) next = Stays phase devid next
-Attaches t phase devid m (unlink q st o) next = Stays phase devid next
-Attaches t phase devid m (break n ts) next = Stays Limits.CLOSED devid next
-Attaches t phase devid m (refusal n) next = Stays phase devid next
-Attaches t phase devid m (return n) next = Stays phase devid next
-Attaches t phase devid m (end ts) next = Stays Limits.CLOSED devid next
+    × FirstDevice (devicesOf t) (busidOf (header m)) i
+    × (let d = getD (devicesOf t) i noDevice in next .link .devid ≡ d .busnum * 65536 + d .devnum)
+AttachesBy t phase devid m (import (suc st)) next = Stays Limits.CLOSED devid next
+AttachesBy t phase devid m hungry next = Stays phase devid next
+AttachesBy t phase devid m list next = Stays Limits.CLOSED devid next
+AttachesBy t phase devid m (submit u) next = Stays phase devid next
+AttachesBy t phase devid m (answer q st) next = Stays phase devid next
+AttachesBy t phase devid m (unlink q st o) next = Stays phase devid next
+AttachesBy t phase devid m (break f ts) next = Stays Limits.CLOSED devid next
 
-abbrev pub consumed : Book → Call → Answer → List ℕ
-consumed b (feed p lent) a = b .part ++ take (a .used) p
-consumed b (complete c) a = b .part
-consumed b close a = b .part
+abbrev pub Attaches : Table → ℕ → ℕ → List ℕ → Entry → Sess → Type 0
+Attaches t phase devid m (fed p (refused n) k) next = Stays phase devid next
+Attaches t phase devid m (fed p (done e) k) next = AttachesBy t phase devid m e next
+Attaches t phase devid m (completed ticket o) next = Stays phase devid next
+Attaches t phase devid m (closing (refused n)) next = Stays phase devid next
+Attaches t phase devid m (closing (done ts)) next = Stays Limits.CLOSED devid next
 
 -- After every prefix of the calls the session agrees with the book; each answer is right by the book before it; the items only
--- grow, and change by the event as 01 says, and so does the message in progress; the table stays.
+-- grow, and change by the answer as the rules say, and so does the message in progress; the table stays.
 abbrev pub Holds : Sess → Book → List Call → Type 0
 Holds s b [] = Agrees s b
 Holds s b (c ∷ cs) =
-    let a = answerTo s c in
+    let a = entryOf s c in
     Agrees s b
     × Right s b c
-    × Grown (b .items) (keep b c a .items)
-    × Moves (b .items) (givenIn c) (a .event) (keep b c a .items)
-    × Parts (b .part) (consumed b c a) (a .event) (keep b c a .part)
-    × Attaches (s .table) (s .phase) (s .devid) (consumed b c a) (a .event) (nextOf s c)
+    × Grown (b .items) (keep b a .items)
+    × Moves (b .items) a (keep b a .items)
+    × Progresses (b .part) a (keep b a .part)
+    × Attaches (s .table) (s .link .phase) (s .link .devid) (consumedFor (b .part) a) a (nextOf s c)
     × (nextOf s c .table ≡ s .table)
-    × Holds (nextOf s c) (keep b c a) cs
+    × Holds (nextOf s c) (keep b a) cs
 
-abbrev pub Demand3 : Type 0
-Demand3 = (t : Table) (calls : List Call) → Holds (openOf t .next) (opened (openOf t .good)) calls
+abbrev pub EveryRun : Type 0
+EveryRun = (t : Table) (calls : List Call) → Holds (openOf t .next) (opened (openOf t .good)) calls

@@ -9,20 +9,25 @@ use mathlib.Core.Option.{some}
 use lib.Dec.{eqb}
 use lib.ListN.{length, take, getD}
 use Rattle.wire.specs.Codes
-use Rattle.messages.specs.Messages.{requestOf, commandOf, submitOf, retSubmit}
+use Rattle.messages.specs.Messages.{requestOf, headerOf}
 use Rattle.exports.specs.Devices.{noDevice, devicesOf}
-use Rattle.tables.specs.Tables.{Rules}
-use Rattle.lookup.specs.Lookup.{First}
 use Rattle.exports.specs.declared.device.Table.{Table}
+use Rattle.tables.specs.Tables.{Rules}
+use Rattle.lookup.specs.Lookup.{FirstDevice, devidOf}
 use Rattle.transmit.specs.Part.{partOf, Sends}
-use Rattle.pending.specs.Pending.{ticketOf, seqnumOf, tickets}
-use Rattle.verdicts.specs.Limits
-use Rattle.verdicts.specs.Rows.{Row, Gives, Clear}
-use Rattle.verdicts.specs.Verdicts.{Not}
-use Rattle.model.specs.Model.{Sess, Event, hungry, list, import, submit, answer, unlink, break, refusal, return, end, End, urbOf, devidOf, between, Buffers, Completion, feedOf, completeOf, closeOf, Open, openOf}
-use Rattle.model.specs.Book.{Call, feed, Book, opened, Item, item, over, keep, pendingOf, Pending, None}
-use Rattle.model.specs.Claims.{answerTo, nextOf, header, sizeOf, byPhase, feedRows, completeRows, closeRows, messageRows, submitRows}
+use Rattle.pending.specs.Pending.{ticketOf, tickets}
 use Rattle.pending.specs.declared.urb.Urb.{Urb}
+use Rattle.limits.specs.Limits
+use Rattle.ground.specs.Rows.{Row, Gives, Clear}
+use Rattle.verdicts.specs.Verdicts.{Not}
+use Rattle.verdicts.specs.declared.verdict.Fault.{Fault}
+use Rattle.model.specs.State.{Sess, End}
+use Rattle.model.specs.Answers.{Outcome, refused, done, Event, hungry, list, import, submit, answer, unlink, break}
+use Rattle.model.specs.Judging.{urbOf}
+use Rattle.model.specs.Acts.{between, Buffers, Completion, feedOf, refusedFeed, completeOf, closeOf, Open, openOf}
+use Rattle.model.specs.Book.{Call, feed, Book, opened, Item, item, over, keep, pendingOf, Pending, NonePending}
+use Rattle.model.specs.Claims.{entryOf, nextOf, header, messageLen, byPhase, feedRowsBy, completionRowsBy, closeRowsBy, headerRowsBy, submitRowsBy}
+use Rattle.model.specs.Claims.{headerFor}
 
 -- ## The run of the definitions, and the book kept from it
 
@@ -32,7 +37,7 @@ sessionAfter s (c ∷ cs) = sessionAfter (nextOf s c) cs
 
 abbrev pub bookAfter : Sess → Book → List Call → Book
 bookAfter s b [] = b
-bookAfter s b (c ∷ cs) = bookAfter (nextOf s c) (keep b c (answerTo s c)) cs
+bookAfter s b (c ∷ cs) = bookAfter (nextOf s c) (keep b (entryOf s c)) cs
 
 -- From a fresh session over a table.
 abbrev pub sessionFrom : Table → List Call → Sess
@@ -46,35 +51,35 @@ bookFrom t cs = bookAfter (openOf t .next) (opened (openOf t .good)) cs
 -- A table is refused, with 2, exactly when it breaks a rule. A session that is not refused waits, over that table; a refused one
 -- is closed, over a table of no devices. That either has nothing pending, no message in progress and all counts 0 is in the
 -- claim about every list of calls, with the empty list.
-pub record Opens (t : Table) (o : Open) : Type 0 where
+pub record OpenGives (t : Table) (o : Open) : Type 0 where
   pub good : (o .good ≡ true) ↔ Rules t
-  pub waits : o .good ≡ true → (o .next .table ≡ t) × (o .next .phase ≡ Limits.WAITING)
-  pub refused : o .good ≡ false → (devicesOf (o .next .table) ≡ []) × (o .next .phase ≡ Limits.CLOSED)
+  pub waits : o .good ≡ true → (o .next .table ≡ t) × (o .next .link .phase ≡ Limits.WAITING)
+  pub refused : o .good ≡ false → (devicesOf (o .next .table) ≡ []) × (o .next .link .phase ≡ Limits.CLOSED)
 
 abbrev pub OpenIff : Type 0
-OpenIff = (t : Table) → Opens t (openOf t)
+OpenIff = (t : Table) → OpenGives t (openOf t)
 
 -- ## Refusals
 
 -- An act is refused with a number exactly when its table gives that number, and goes on exactly when no row holds.
-abbrev pub ByTable : List Row → Event → Type 0
-ByTable rs e = ((n : ℕ) → (e ≡ refusal n) ↔ Gives rs n) × (((n : ℕ) → e ≡ refusal n → ⊥) ↔ Clear rs)
+abbrev pub ByTable : {A : Type 0} → List (Row ℕ) → Outcome A → Type 0
+ByTable rs o = ((n : ℕ) → (o ≡ refused n) ↔ Gives rs n) × (((n : ℕ) → o ≡ refused n → ⊥) ↔ Clear rs)
 
 abbrev pub RefusedIff : Type 0
 RefusedIff = (t : Table) (cs : List Call)
     → let s = sessionFrom t cs in
     let b = bookFrom t cs in
-    ((p : List ℕ) (lent : Buffers) → ByTable (feedRows b lent) (feedOf s lent p .event))
-    × ((c : Completion) → ByTable (completeRows b c) (completeOf s c .event))
-    × ByTable (closeRows b) (closeOf s .event)
+    ((p : List ℕ) (lent : Buffers) → ByTable (feedRowsBy b lent) (feedOf s lent p .event))
+    × ((c : Completion) → ByTable (completionRowsBy b c) (completeOf s c .answer))
+    × ByTable (closeRowsBy b) (closeOf s .answer)
 
 -- ## A late ticket
 
 -- A completion is refused by the table, with 3, 1 or 4, and changes nothing.
-pub record Refused (s : Sess) (b : Book) (c : Completion) : Type 0 where
+pub record RefusedLate (s : Sess) (b : Book) (c : Completion) : Type 0 where
   pub number : ℕ
-  pub event : completeOf s c .event ≡ refusal number
-  pub by-table : Gives (completeRows b c) number
+  pub answer : completeOf s c .answer ≡ refused number
+  pub by-table : Gives (completionRowsBy b c) number
   pub which : (number ≡ Limits.SESSION-CLOSED) ⊎ ((number ≡ Limits.SHORT-BUFFER) ⊎ (number ≡ Limits.NOT-PENDING))
   pub header : completeOf s c .header ≡ c .header
   pub next : completeOf s c .next ≡ s
@@ -82,7 +87,7 @@ pub record Refused (s : Sess) (b : Book) (c : Completion) : Type 0 where
 -- After every list of calls: a completion whose ticket no pending item has is refused, whatever seqnums are pending now.
 abbrev pub LateTicket : Type 0
 LateTicket = (t : Table) (cs : List Call) (c : Completion)
-    → None (bookFrom t cs .items) ticketOf (c .ticket) → Refused (sessionFrom t cs) (bookFrom t cs) c
+    → NonePending (bookFrom t cs .items) ticketOf (c .ticket) → RefusedLate (sessionFrom t cs) (bookFrom t cs) c
 
 -- An item that was returned, unlinked or dropped has a ticket.
 abbrev pub Ended : List Item → ℕ → Type 0
@@ -92,21 +97,16 @@ Ended is k = (u : Urb) × (e : End) × List·Memᴰ (item u (over e)) is × (tic
 abbrev pub EndedTicket : Type 0
 EndedTicket = (t : Table) (cs : List Call) (k : ℕ)
     → Ended (bookFrom t cs .items) k
-    → None (bookFrom t cs .items) ticketOf k × ((later : List Call) → Ended (bookFrom t (cs ++ later) .items) k)
+    → NonePending (bookFrom t cs .items) ticketOf k × ((later : List Call) → Ended (bookFrom t (cs ++ later) .items) k)
 
 -- A request that an unlink cancelled finishes late: its completion is refused, also where its seqnum is in use again.
 abbrev pub CancelledTicket : Type 0
 CancelledTicket = (t : Table) (cs later : List Call) (p : List ℕ) (lent : Buffers) (q st : ℕ) (c : Completion)
-    → feedOf (sessionFrom t cs) lent p .event ≡ unlink q st (some (c .ticket))
+    → feedOf (sessionFrom t cs) lent p .event ≡ done (unlink q st (some (c .ticket)))
     → let calls = cs ++ (feed p lent ∷ later) in
-    Refused (sessionFrom t calls) (bookFrom t calls) c
+    RefusedLate (sessionFrom t calls) (bookFrom t calls) c
 
 -- ## Sending
-
--- The reply to the completion of a URB: RET_SUBMIT under the URB's own seqnum.
-abbrev pub headerFor : Urb → Completion → List ℕ
-headerFor u c =
-    retSubmit (record { seqnum = seqnumOf u; status = c .status; actual = c .actual; frame = u .transfer .frame; packets = u .transfer .packets })
 
 -- After every list of calls: an accepted completion, sent with n = its wire length less 48, puts out exactly the 48 bytes of its own
 -- URB's RET_SUBMIT and, for IN, the first actual_length bytes of the device's data: in order, whatever each step may send, and
@@ -116,14 +116,14 @@ pub record Sent (is : List Item) (c : Completion) (wire : ℕ) (header : List �
   pub held : Pending is urb
   pub named : ticketOf urb ≡ c .ticket
   pub reads : urb .transfer .direction ≡ Codes.DIR-IN
-      → Sends (partOf header (c .frame) (wire - Codes.HEADER-LEN)) (headerFor urb c ++ take (c .actual) (c .frame)) (Codes.HEADER-LEN + c .actual)
+      → Sends (partOf header (c .payload) (wire - Codes.HEADER-LEN)) (headerFor urb c ++ take (c .actual) (c .payload)) (Codes.HEADER-LEN + c .actual)
   pub writes : Not (urb .transfer .direction) Codes.DIR-IN
-      → Sends (partOf header (c .frame) (wire - Codes.HEADER-LEN)) (headerFor urb c) Codes.HEADER-LEN
+      → Sends (partOf header (c .payload) (wire - Codes.HEADER-LEN)) (headerFor urb c) Codes.HEADER-LEN
 
 abbrev pub CompletionSent : Type 0
 CompletionSent = (t : Table) (cs : List Call) (c : Completion) (wire : ℕ)
     → let r = completeOf (sessionFrom t cs) c in
-    r .event ≡ return wire → Sent (bookFrom t cs .items) c wire (r .header)
+    r .answer ≡ done wire → Sent (bookFrom t cs .items) c wire (r .header)
 
 -- ## A submit
 
@@ -131,48 +131,48 @@ CompletionSent = (t : Table) (cs : List Call) (c : Completion) (wire : ℕ)
 -- verdict on a submit asks for is busnum x 65,536 + devnum of an exported device.
 abbrev pub AttachedTo : Type 0
 AttachedTo = (t : Table) (cs : List Call)
-    → sessionFrom t cs .phase ≡ Limits.ATTACHED
-    → (busid : List ℕ) × (i : ℕ) × First (devicesOf t) busid i × (sessionFrom t cs .devid ≡ devidOf (getD (devicesOf t) i noDevice))
+    → sessionFrom t cs .link .phase ≡ Limits.ATTACHED
+    → (busid : List ℕ) × (i : ℕ) × FirstDevice (devicesOf t) busid i × (sessionFrom t cs .link .devid ≡ devidOf (getD (devicesOf t) i noDevice))
 
 -- The session is attached with no message in progress, the lent buffers are big enough, and m is one whole submit.
 pub record Ready (s : Sess) (b : Book) (lent : Buffers) (m : List ℕ) : Type 0 where
-  pub attached : s .phase ≡ Limits.ATTACHED
+  pub attached : s .link .phase ≡ Limits.ATTACHED
   pub empty : b .part ≡ []
   pub work : Limits.WORK-LEN ≤ length (lent .work)
   pub reply : Limits.REPLY-LEN ≤ length (lent .reply)
-  pub command : commandOf (header m) ≡ Codes.CMD-SUBMIT
+  pub command : headerOf (header m) .command ≡ Codes.CMD-SUBMIT
   -- so it has 48 bytes at least
-  pub whole : length m ≡ sizeOf (header m)
+  pub whole : length m ≡ messageLen (header m)
 
 -- A feed answers a whole submit m, the first of its piece, by the book and the devid: it is accepted exactly when no row of
 -- the two tables holds, it breaks the session exactly when a row of the first does, and is answered with a status exactly when
 -- only a row of the second does.
-pub record Verdict (devid : ℕ) (is : List Item) (m : List ℕ) (event : Event) (used : ℕ) : Type 0 where
+pub record Verdict (devid : ℕ) (is : List Item) (m : List ℕ) (event : Outcome Event) (consumed : ℕ) : Type 0 where
   pub accepted : (u : Urb)
-      → (event ≡ submit u)
-      ↔ (Clear (messageRows is (header m)) × Clear (submitRows devid is (header m)) × (u ≡ urbOf (suc (length is)) (header m)))
-  pub broken : (n : ℕ) (ts : List ℕ)
-      → (event ≡ break n ts) ↔ (Gives (messageRows is (header m)) n × (ts ≡ tickets (pendingOf is)))
+      → (event ≡ done (submit u))
+      ↔ (Clear (headerRowsBy is (header m)) × Clear (submitRowsBy devid is (header m)) × (u ≡ urbOf (suc (length is)) (headerOf (header m))))
+  pub broken : (f : Fault) (ts : List ℕ)
+      → (event ≡ done (break f ts)) ↔ (Gives (headerRowsBy is (header m)) f × (ts ≡ tickets (pendingOf is)))
   pub answered : (q st : ℕ)
-      → (event ≡ answer q st)
-      ↔ (Clear (messageRows is (header m)) × Gives (submitRows devid is (header m)) st × (q ≡ submitOf (header m) .seqnum))
+      → (event ≡ done (answer q st))
+      ↔ (Clear (headerRowsBy is (header m)) × Gives (submitRowsBy devid is (header m)) st × (q ≡ headerOf (header m) .transfer .seqnum))
   -- one of the three it is, with so many bytes consumed
-  pub one : ((u : Urb) × (event ≡ submit u) × (used ≡ length m))
-      ⊎ (((q : ℕ) × (st : ℕ) × (event ≡ answer q st) × (used ≡ length m))
-      ⊎ ((n : ℕ) × (ts : List ℕ) × (event ≡ break n ts) × (used ≡ Codes.HEADER-LEN)))
+  pub one : ((u : Urb) × (event ≡ done (submit u)) × (consumed ≡ length m))
+      ⊎ (((q : ℕ) × (st : ℕ) × (event ≡ done (answer q st)) × (consumed ≡ length m))
+      ⊎ ((f : Fault) × (ts : List ℕ) × (event ≡ done (break f ts)) × (consumed ≡ Codes.HEADER-LEN)))
 
 abbrev pub AcceptIff : Type 0
 AcceptIff = (t : Table) (cs : List Call) (lent : Buffers) (m rest : List ℕ)
     → let s = sessionFrom t cs in
     let b = bookFrom t cs in
     let r = feedOf s lent (m ++ rest) in
-    Ready s b lent m → Verdict (s .devid) (b .items) m (r .event) (r .used)
+    Ready s b lent m → Verdict (s .link .devid) (b .items) m (r .event) (r .consumed)
 
 -- A submit that is answered with a status leaves the session as it was, with no message in progress: no ticket is used up.
 abbrev pub AnsweredStays : Type 0
 AnsweredStays = (t : Table) (cs : List Call) (p : List ℕ) (lent : Buffers) (q st : ℕ)
     → let s = sessionFrom t cs in
-    feedOf s lent p .event ≡ answer q st → feedOf s lent p .next ≡ between s
+    feedOf s lent p .event ≡ done (answer q st) → feedOf s lent p .next ≡ between s
 
 -- ## What a feed consumes
 
@@ -181,44 +181,38 @@ abbrev pub requestSize : List ℕ → ℕ
 requestSize x = cond (eqb (requestOf (header x) .code) Codes.OP-REQ-IMPORT) (Codes.OP-LEN + Codes.BUSID-LEN) Codes.OP-LEN
 
 abbrev pub messageSize : List ℕ → ℕ
-messageSize x = cond (eqb (commandOf (header x)) Codes.CMD-SUBMIT) (sizeOf (header x)) Codes.HEADER-LEN
+messageSize x = cond (eqb (headerOf (header x) .command) Codes.CMD-SUBMIT) (messageLen (header x)) Codes.HEADER-LEN
 
--- With `came` bytes of a message before a piece of `more` bytes, the piece is used just up to the message's n-th byte.
-abbrev pub UpTo : ℕ → ℕ → ℕ → ℕ → Type 0
-UpTo n came more used = (n ≤ came + more) × (came + used ≡ n)
+-- With `came` bytes of a message before a piece of `more` bytes, k of the piece are consumed, just up to the message's n-th byte.
+abbrev pub UpTo : (n came more k : ℕ) → Type 0
+UpTo n came more k = (n ≤ came + more) × (came + k ≡ n)
 
--- A feed uses the piece up to the end of the message, of `size` bytes, if that is in it, and else all of it (then it is
+-- A feed consumes the piece up to the end of the message, of `size` bytes, if that is in it, and else all of it (then it is
 -- hungry); a break comes at byte `test`.
-abbrev pub Consumes : (size test came more : ℕ) → Event → ℕ → Type 0
-Consumes size test came more hungry used = (came + more < size) × (used ≡ more)
-Consumes size test came more list used = UpTo size came more used
-Consumes size test came more (import st) used = UpTo size came more used
-Consumes size test came more (submit u) used = UpTo size came more used
-Consumes size test came more (answer q st) used = UpTo size came more used
-Consumes size test came more (unlink q st o) used = UpTo size came more used
-Consumes size test came more (break n ts) used = UpTo test came more used
-Consumes size test came more (refusal n) used = used ≡ 0
-Consumes size test came more (return n) used = ⊥
-Consumes size test came more (end ts) used = ⊥
+abbrev pub Reaches : (size test came more : ℕ) → Outcome Event → ℕ → Type 0
+Reaches size test came more (refused n) k = k ≡ 0
+Reaches size test came more (done hungry) k = (came + more < size) × (k ≡ more)
+Reaches size test came more (done list) k = UpTo size came more k
+Reaches size test came more (done (import st)) k = UpTo size came more k
+Reaches size test came more (done (submit u)) k = UpTo size came more k
+Reaches size test came more (done (answer q st)) k = UpTo size came more k
+Reaches size test came more (done (unlink q st o)) k = UpTo size came more k
+Reaches size test came more (done (break f ts)) k = UpTo test came more k
 
 -- Of the bytes q of the message in progress and a piece p.
-abbrev pub RequestUses : (q p : List ℕ) → Event → ℕ → Type 0
-RequestUses q p e used = Consumes (requestSize (q ++ p)) Codes.OP-LEN (length q) (length p) e used
-
-abbrev pub MessageUses : (q p : List ℕ) → Event → ℕ → Type 0
-MessageUses q p e used = Consumes (messageSize (q ++ p)) Codes.HEADER-LEN (length q) (length p) e used
-
 abbrev pub Consumption : Type 0
 Consumption = (t : Table) (cs : List Call) (lent : Buffers) (p : List ℕ)
     → let s = sessionFrom t cs in
     let q = bookFrom t cs .part in
     let r = feedOf s lent p in
-    byPhase (eqb (s .phase) Limits.WAITING) (RequestUses q p (r .event) (r .used)) (MessageUses q p (r .event) (r .used))
+    byPhase (eqb (s .link .phase) Limits.WAITING)
+    (Reaches (requestSize (q ++ p)) Codes.OP-LEN (length q) (length p) (r .event) (r .consumed))
+    (Reaches (messageSize (q ++ p)) Codes.HEADER-LEN (length q) (length p) (r .event) (r .consumed))
 
 -- An empty piece is refused by the table, or else consumed; either way nothing changes.
 abbrev pub EmptyPiece : Type 0
 EmptyPiece = (t : Table) (cs : List Call) (lent : Buffers)
     → let s = sessionFrom t cs in
     let b = bookFrom t cs in
-    ((n : ℕ) × Gives (feedRows b lent) n × (feedOf s lent [] ≡ record { event = refusal n; used = 0; buffers = lent; next = s }))
-    ⊎ (Clear (feedRows b lent) × (feedOf s lent [] ≡ record { event = hungry; used = 0; buffers = lent; next = s }))
+    ((n : ℕ) × Gives (feedRowsBy b lent) n × (feedOf s lent [] ≡ refusedFeed s lent n))
+    ⊎ (Clear (feedRowsBy b lent) × (feedOf s lent [] ≡ record { event = done hungry; consumed = 0; buffers = lent; next = s }))

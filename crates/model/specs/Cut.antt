@@ -1,5 +1,5 @@
--- Claims on feeding (01, "Feed"): what a feed consumes, that the stream may be cut anywhere, what a feed leaves as it was.
-use Prim.Native.Nat.{ℕ, _-_, _≤_, _<_}
+-- Claims on feeding (PROTOCOL.md, 3.2 and 8): what a feed consumes, that the stream may be cut anywhere, what a feed leaves as it was.
+use Prim.Native.Nat.{ℕ, _≤_, _<_}
 use mathlib.Core.Path.{_≡_}
 use mathlib.Core.Bool.{false}
 use mathlib.Core.List.{List, [], _∷_, _++_, flatten}
@@ -7,28 +7,36 @@ use mathlib.Core.Option.{Option}
 use lib.ListN.{length, take, drop}
 use lib.Seq.{sets}
 use Rattle.wire.specs.Codes
-use Rattle.wire.specs.Writing.{over}
-use Rattle.verdicts.specs.Limits
-use Rattle.model.specs.Machine.{Fed, Ran, drainAll}
-use Rattle.model.specs.Model.{Sess, Event, hungry, list, submit, unlink, break, refusal, isHungry, Buffers, closed, bodyOf, grow, replyTo, feedOf, Completion, completeOf, closeOf}
+use Rattle.ground.specs.Writing.{over}
+use Rattle.messages.specs.Messages.{bodyLen}
 use Rattle.pending.specs.declared.urb.Urb.{Urb}
+use Rattle.limits.specs.Limits
+use Rattle.verdicts.specs.declared.verdict.Fault.{Fault}
+use Rattle.model.specs.Machine.{Fed, Ran, drainAll}
+use Rattle.model.specs.State.{Message, partly, headed, Sess, closed, headerIn, room, place}
+use Rattle.model.specs.Answers.{Outcome, refused, done, Event, hungry, list, submit, unlink, break, saysNothing}
+use Rattle.model.specs.Judging.{grow}
+use Rattle.model.specs.Acts.{replyTo, Buffers, feedOf, refusedFeed, Completion, completeOf, refusedCompletion, closeOf}
 
 -- "buffers have at least their least size"
 pub record Enough (b : Buffers) : Type 0 where
   pub work : Limits.WORK-LEN ≤ length (b .work)
   pub reply : Limits.REPLY-LEN ≤ length (b .reply)
 
+abbrev pub Feeding : Type 0
+Feeding = Fed Sess (Outcome Event) Buffers
+
 -- ## What a feed consumes
 
 pub record Consuming (s : Sess) (b : Buffers) (piece : List ℕ) : Type 0 where
   -- at most the piece, all of it by a feed that is hungry, at least one byte if there is one
-  pub most : feedOf s b piece .used ≤ length piece
-  pub all : feedOf s b piece .event ≡ hungry → feedOf s b piece .used ≡ length piece
-  pub some : 0 < length piece → 0 < feedOf s b piece .used
+  pub most : feedOf s b piece .consumed ≤ length piece
+  pub all : feedOf s b piece .event ≡ done hungry → feedOf s b piece .consumed ≡ length piece
+  pub some : 0 < length piece → 0 < feedOf s b piece .consumed
   -- an empty piece is answered hungry, and nothing changes
-  pub none : piece ≡ [] → feedOf s b piece ≡ record { event = hungry; used = 0; buffers = b; next = s }
+  pub none : piece ≡ [] → feedOf s b piece ≡ record { event = done hungry; consumed = 0; buffers = b; next = s }
   -- what is said within the first bytes, the others don't change
-  pub within : (rest : List ℕ) → isHungry (feedOf s b piece .event) ≡ false → feedOf s b (piece ++ rest) ≡ feedOf s b piece
+  pub within : (rest : List ℕ) → saysNothing (feedOf s b piece .event) ≡ false → feedOf s b (piece ++ rest) ≡ feedOf s b piece
 
 abbrev pub Consumes : Type 0
 Consumes = (s : Sess) (b : Buffers) (piece : List ℕ) → closed s ≡ false → Enough b → Consuming s b piece
@@ -44,30 +52,32 @@ abbrev pub putAll : {St X B : Type 0} → (St → X → St) → (St → X → B 
 putAll step put s [] b = b
 putAll step put s (x ∷ xs) b = putAll step put (step s x) xs (put s x b)
 
--- Of bytes that come, those past the message's header.
-abbrev pub bodyIn : Sess → List ℕ → List ℕ
-bodyIn s bytes = drop (Codes.HEADER-LEN - length (s .head)) bytes
+-- The session when what a feed consumed is in.
+abbrev pub taken : Sess → List ℕ → Feeding → Sess
+taken s piece r = stepAll grow s (take (r .consumed) piece)
 
--- The session when what a feed consumed is in; what the feed wrote then to the reply buffer, and before to the work buffer.
-abbrev pub taken : Sess → List ℕ → Fed Sess Event Buffers → Sess
-taken s piece r = stepAll grow s (take (r .used) piece)
+-- What the feed wrote then to the reply buffer.
+abbrev pub outcomeReply : Sess → Outcome Event → List ℕ
+outcomeReply s (refused n) = []
+outcomeReply s (done e) = replyTo s e
 
-abbrev pub replied : Sess → List ℕ → Fed Sess Event Buffers → List ℕ
-replied s piece r = replyTo (taken s piece r) (r .event)
+abbrev pub replied : Sess → List ℕ → Feeding → List ℕ
+replied s piece r = outcomeReply (taken s piece r) (r .event)
 
 -- "The answer gives the bytes consumed, the reply's length and the event": the length.
-abbrev pub written : Sess → List ℕ → Fed Sess Event Buffers → ℕ
+abbrev pub written : Sess → List ℕ → Feeding → ℕ
 written s piece r = length (replied s piece r)
 
-abbrev pub placed : Sess → List ℕ → Fed Sess Event Buffers → List ℕ
-placed s piece r = bodyIn s (take (r .used) piece)
+-- What it wrote before to the work buffer: of the bytes consumed, those past the message's header.
+abbrev pub dataPlaced : Sess → List ℕ → Feeding → List ℕ
+dataPlaced s piece r = drop (room (s .link .message)) (take (r .consumed) piece)
 
 -- ## Cutting
 
 -- "the unread rest of a piece is fed next until used up, and nothing is fed once it is closed". Of every answer but hungry
 -- the caller keeps the event and both buffers as they stood then; the reply is `replied`, at the front of the reply buffer.
-unfoldable pub drainedOf : Sess → Buffers → List (List ℕ) → Ran Sess Event Buffers
-drainedOf s b ps = drainAll feedOf isHungry closed s b ps
+unfoldable pub drainedOf : Sess → Buffers → List (List ℕ) → Ran Sess (Outcome Event) Buffers
+drainedOf s b ps = drainAll feedOf saysNothing closed s b ps
 
 -- Pieces that make up the same bytes, empty ones among them, give the same: the answers with their buffers, the sum of bytes
 -- consumed, the buffers and the session at the end. The session is any, within a message too; a closed one is fed nothing.
@@ -76,69 +86,81 @@ Cutting = (s : Sess) (b : Buffers) (ps qs : List (List ℕ)) → Enough b → fl
 
 -- The same where the caller keeps each reply by itself, and its length, too.
 pub record Answer : Type 0 where
-  pub event : Event
+  pub event : Outcome Event
   pub reply : List ℕ
   pub length : ℕ
 
-abbrev pub answer : Sess → List ℕ → Fed Sess Event Buffers → Fed Sess Answer Buffers
+abbrev pub answer : Sess → List ℕ → Feeding → Fed Sess Answer Buffers
 answer s piece r =
-    record { event = record { event = r .event; reply = replied s piece r; length = written s piece r }; used = r .used; buffers = r .buffers; next = r .next }
+    record {
+      event = record { event = r .event; reply = replied s piece r; length = written s piece r };
+      consumed = r .consumed;
+      buffers = r .buffers;
+      next = r .next;
+    }
 
 unfoldable pub answersOf : Sess → Buffers → List (List ℕ) → Ran Sess Answer Buffers
-answersOf s b ps = drainAll (λ s b piece. answer s piece (feedOf s b piece)) (λ a. isHungry (a .event)) closed s b ps
+answersOf s b ps = drainAll (λ s b piece. answer s piece (feedOf s b piece)) (λ a. saysNothing (a .event)) closed s b ps
 
 abbrev pub CuttingAnswers : Type 0
 CuttingAnswers = (s : Sess) (b : Buffers) (ps qs : List (List ℕ)) → Enough b → flatten ps ≡ flatten qs → answersOf s b ps ≡ answersOf s b qs
 
 -- All the bytes are consumed, but by a session that is closed in the end.
 abbrev pub Draining : Type 0
-Draining = (s : Sess) (b : Buffers) (ps : List (List ℕ)) → Enough b → closed (drainedOf s b ps .next) ≡ false → drainedOf s b ps .used ≡ length (flatten ps)
+Draining = (s : Sess) (b : Buffers) (ps : List (List ℕ)) → Enough b
+    → closed (drainedOf s b ps .next) ≡ false → drainedOf s b ps .consumed ≡ length (flatten ps)
 
 -- ## What a feed leaves as it was
 
-pub record Leaving (s : Sess) (b : Buffers) (piece : List ℕ) (r : Fed Sess Event Buffers) : Type 0 where
+-- The header of the message in progress isn't whole.
+abbrev pub Heading : Message → Type 0
+Heading (partly bytes) = length bytes < Codes.HEADER-LEN
+Heading (headed h body) = ⊥
+
+pub record Leaving (s : Sess) (b : Buffers) (piece : List ℕ) (r : Feeding) : Type 0 where
   -- a refusal changes nothing and consumes nothing; a break changes no buffer
-  pub refused : (n : ℕ) → r .event ≡ refusal n → r ≡ record { event = refusal n; used = 0; buffers = b; next = s }
-  pub broken : (n : ℕ) (ts : List ℕ) → r .event ≡ break n ts → r .buffers ≡ b
+  pub refuses : (n : ℕ) → r .event ≡ refused n → r ≡ refusedFeed s b n
+  pub broken : (f : Fault) (ts : List ℕ) → r .event ≡ done (break f ts) → r .buffers ≡ b
   -- hungry and an accepted submit leave the reply buffer
-  pub waits : r .event ≡ hungry → r .buffers .reply ≡ b .reply
-  pub accepts : (u : Urb) → r .event ≡ submit u → r .buffers .reply ≡ b .reply
+  pub waits : r .event ≡ done hungry → r .buffers .reply ≡ b .reply
+  pub accepts : (u : Urb) → r .event ≡ done (submit u) → r .buffers .reply ≡ b .reply
   -- "A reply starts at 0 of the reply buffer; bytes past it don't change."
   pub reply : r .buffers .reply ≡ over (replied s piece r) (b .reply)
   -- "at its own position from 0 as it comes .. nothing else is written there"
-  pub work : r .buffers .work ≡ sets (b .work) (s .body) (placed s piece r)
+  pub work : r .buffers .work ≡ sets (b .work) (place (s .link .message)) (dataPlaced s piece r)
   -- so nothing at all by a list, any other request, an unlink, a message without data
-  pub lists : r .event ≡ list → r .buffers .work ≡ b .work
-  pub requests : s .phase ≡ Limits.WAITING → length (s .head) < Codes.HEADER-LEN → r .buffers .work ≡ b .work
-  pub unlinks : (q st : ℕ) (t : Option ℕ) → r .event ≡ unlink q st t → r .buffers .work ≡ b .work
-  pub dataless : length (s .head) < Codes.HEADER-LEN → s .body ≡ 0 → bodyOf (taken s piece r .head) ≡ 0 → r .buffers .work ≡ b .work
+  pub lists : r .event ≡ done list → r .buffers .work ≡ b .work
+  pub requests : s .link .phase ≡ Limits.WAITING → Heading (s .link .message) → r .buffers .work ≡ b .work
+  pub unlinks : (q st : ℕ) (t : Option ℕ) → r .event ≡ done (unlink q st t) → r .buffers .work ≡ b .work
+  pub dataless : Heading (s .link .message) → bodyLen (headerIn (taken s piece r .link .message)) ≡ 0 → r .buffers .work ≡ b .work
 
 abbrev pub Untouched : Type 0
 Untouched = (s : Sess) (b : Buffers) (piece : List ℕ) → Leaving s b piece (feedOf s b piece)
 
 -- An answer without its work buffer.
-abbrev pub butWork : Fed Sess Event Buffers → Fed Sess Event (List ℕ)
-butWork r = record { event = r .event; used = r .used; buffers = r .buffers .reply; next = r .next }
+abbrev pub butWork : Feeding → Fed Sess (Outcome Event) (List ℕ)
+butWork r = record { event = r .event; consumed = r .consumed; buffers = r .buffers .reply; next = r .next }
 
 abbrev pub lent : List ℕ → List ℕ → Buffers
 lent work reply = record { work = work; reply = reply }
 
 -- "A caller who changes the work buffer within a message changes only that data." Of two work buffers that are equally long, either
 -- gives the same answer, and gets the same bytes at the same position.
-pub record Alike (at : ℕ) (v w : List ℕ) (r q : Fed Sess Event Buffers) : Type 0 where
+pub record Alike (at : ℕ) (v w : List ℕ) (r q : Feeding) : Type 0 where
   pub answer : butWork r ≡ butWork q
   pub bytes : List ℕ
   pub first : r .buffers .work ≡ sets v at bytes
   pub second : q .buffers .work ≡ sets w at bytes
 
 abbrev pub WorkFree : Type 0
-WorkFree = (s : Sess) (v w reply piece : List ℕ) → length v ≡ length w → Alike (s .body) v w (feedOf s (lent v reply) piece) (feedOf s (lent w reply) piece)
+WorkFree = (s : Sess) (v w reply piece : List ℕ) → length v ≡ length w
+    → Alike (place (s .link .message)) v w (feedOf s (lent v reply) piece) (feedOf s (lent w reply) piece)
 
 -- The other acts: a refusal changes nothing, and a completion writes only the header buffer's first bytes.
 pub record Keeping (s : Sess) (c : Completion) : Type 0 where
-  pub complete : (n : ℕ) → completeOf s c .event ≡ refusal n → completeOf s c ≡ record { event = refusal n; header = c .header; next = s }
+  pub complete : (n : ℕ) → completeOf s c .answer ≡ refused n → completeOf s c ≡ refusedCompletion s c n
   pub header : drop Codes.HEADER-LEN (completeOf s c .header) ≡ drop Codes.HEADER-LEN (c .header)
-  pub close : (n : ℕ) → closeOf s .event ≡ refusal n → closeOf s .next ≡ s
+  pub close : (n : ℕ) → closeOf s .answer ≡ refused n → closeOf s .next ≡ s
 
 abbrev pub Keeps : Type 0
 Keeps = (s : Sess) (c : Completion) → Keeping s c

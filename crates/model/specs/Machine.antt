@@ -4,55 +4,56 @@ use Prim.Native.Nat.{ℕ, zero, suc, _+_}
 use mathlib.Core.Bool.{Bool, true, false, cond}
 use mathlib.Core.List.{List, [], _∷_, _++_}
 use lib.ListN.{length, drop}
-use Rattle.verdicts.specs.Tests.{pick}
+use Rattle.ground.specs.Tests.{pick}
 
 -- What a feed answers and leaves: the event, how many symbols it consumed, the buffers, the next state.
 pub record Fed (St Ev B : Type 0) : Type 0 where
   pub event : Ev
-  pub used : ℕ
+  pub consumed : ℕ
   pub buffers : B
   pub next : St
 
 -- An answer as a caller keeps it: the event, and the buffers as they stood then.
-pub record Told (Ev B : Type 0) : Type 0 where
+pub record Note (Ev B : Type 0) : Type 0 where
   pub event : Ev
   pub buffers : B
 
--- What a run of feeds told, consumed and left.
+-- What a run of feeds answered, consumed and left.
 pub record Ran (St Ev B : Type 0) : Type 0 where
-  pub told : List (Told Ev B)
-  pub used : ℕ
+  pub notes : List (Note Ev B)
+  pub consumed : ℕ
   pub buffers : B
   pub next : St
 
 -- ## Feeding
 
--- step: a symbol is taken in; put: what it does to the buffers; judge: what is to be said now; after and tell: what saying it
+-- step: a symbol is taken in; put: what it does to the buffers; judge: what is to be said now; after and reply: what saying it
 -- does to the state and to the buffers. An event that is quiet says nothing.
-module _ {St Ev X B : Type 0} (step : St → X → St) (put : St → X → B → B) (judge : St → Ev) (after : St → Ev → St) (tell : St → Ev → B → B) (hungry : Ev) (quiet : Ev → Bool) where
+module _ {St Ev X B : Type 0} (step : St → X → St) (put : St → X → B → B) (judge : St → Ev) (after : St → Ev → St)
+    (reply : St → Ev → B → B) (hungry : Ev) (quiet : Ev → Bool) where
   -- Up to the first symbol at which something is said, or all of them.
   unfoldable pub feed : St → B → List X → Fed St Ev B
-  feed s b [] = record { event = hungry; used = 0; buffers = b; next = s }
+  feed s b [] = record { event = hungry; consumed = 0; buffers = b; next = s }
   feed s b (x ∷ xs) =
       let r = feed (step s x) (put s x b) xs in
       let e = judge (step s x) in
       pick (quiet e)
-      (record { event = r .event; used = suc (r .used); buffers = r .buffers; next = r .next })
-      (record { event = e; used = 1; buffers = tell (step s x) e (put s x b); next = after (step s x) e })
+      (record { event = r .event; consumed = suc (r .consumed); buffers = r .buffers; next = r .next })
+      (record { event = e; consumed = 1; buffers = reply (step s x) e (put s x b); next = after (step s x) e })
 
 -- ## Pieces
 
 -- Whatever feeds: a piece is fed, then its unread rest, until it is used up; nothing is fed once the state is shut.
 module _ {St Ev X B : Type 0} (feeder : St → B → List X → Fed St Ev B) (quiet : Ev → Bool) (shut : St → Bool) where
   abbrev pub idle : St → B → Ran St Ev B
-  idle s b = record { told = []; used = 0; buffers = b; next = s }
+  idle s b = record { notes = []; consumed = 0; buffers = b; next = s }
 
   -- an answer before those of a run; a quiet one isn't kept
   abbrev pub before : Fed St Ev B → Ran St Ev B → Ran St Ev B
   before r q =
       record {
-        told = cond (quiet (r .event)) (q .told) (record { event = r .event; buffers = r .buffers } ∷ q .told);
-        used = r .used + q .used;
+        notes = cond (quiet (r .event)) (q .notes) (record { event = r .event; buffers = r .buffers } ∷ q .notes);
+        consumed = r .consumed + q .consumed;
         buffers = q .buffers;
         next = q .next;
       }
@@ -66,7 +67,7 @@ module _ {St Ev X B : Type 0} (feeder : St → B → List X → Fed St Ev B) (qu
   drain zero s b xs = idle s b
   drain (suc turns) s b xs =
       let r = feeder s b xs in
-      let rest = drop (r .used) xs in
+      let rest = drop (r .consumed) xs in
       let q = drain turns (r .next) (r .buffers) rest in
       pick (shut s) (idle s b) (before r (pick (empty rest) (idle (r .next) (r .buffers)) q))
 
@@ -76,4 +77,4 @@ module _ {St Ev X B : Type 0} (feeder : St → B → List X → Fed St Ev B) (qu
   drainAll s b (p ∷ ps) =
       let r = drain (suc (length p)) s b p in
       let q = drainAll (r .next) (r .buffers) ps in
-      record { told = r .told ++ q .told; used = r .used + q .used; buffers = q .buffers; next = q .next }
+      record { notes = r .notes ++ q .notes; consumed = r .consumed + q .consumed; buffers = q .buffers; next = q .next }

@@ -21,7 +21,8 @@ module _ (b : ℕ) (two : 2 ≤ b) where
   same-within (suc j) zero n p q = rw (lt-ltb n b (omega arith))
   same-within (suc j) (suc k) n p q = go (ltb n b) refl (same-within j k (n / b))
     where
-      go : (t : Bool) → ltb n b ≡ t → (n / b ≤ j → n / b ≤ k → Digits.digitsWithin j b (n / b) ≡ Digits.digitsWithin k b (n / b)) → Digits.digitsWithin (suc j) b n ≡ Digits.digitsWithin (suc k) b n
+      go : (t : Bool) → ltb n b ≡ t → (n / b ≤ j → n / b ≤ k → Digits.digitsWithin j b (n / b) ≡ Digits.digitsWithin k b (n / b))
+          → Digits.digitsWithin (suc j) b n ≡ Digits.digitsWithin (suc k) b n
       go true e h = rw e
       go false e h = let l : n / b < n = div-lt-self {n = n} {k = b} (omega (arith, ltb-false n b e)) two in rw (e, h (omega arith) (omega arith))
 

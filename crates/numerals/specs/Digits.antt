@@ -10,7 +10,7 @@ use lib.Dec.{ltb}
 use lib.ListN.{getD}
 use lib.IntN.{ℤ, pos, negsuc}
 use Rattle.wire.specs.Status.{signedOf}
-use Rattle.wire.specs.Fields.{joined}
+use Rattle.ground.specs.Lists.{joined}
 
 -- The codes of a text's characters.
 abbrev pub ascii : String → List ℕ

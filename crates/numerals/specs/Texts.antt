@@ -4,7 +4,7 @@ use Prim.Native.String.{String}
 use mathlib.Core.Path.{_≡_}
 use mathlib.Core.List.{List, [], _∷_, _++_}
 use lib.ListN.{take}
-use Rattle.pending.specs.Pending.{MAX-PENDING}
+use Rattle.limits.specs.Limits.{MAX-PENDING}
 use Rattle.numerals.specs.Digits.{ascii}
 use Rattle.numerals.specs.declared.text.Text.{Text}
 
@@ -41,6 +41,6 @@ unfoldable pub textOf : Text → List ℕ
 textOf t = take (t .len) (t .bytes)
 
 -- It holds these bytes, and no more than so many.
-pub record Holds (t : Text) (bytes : List ℕ) (most : ℕ) : Type 0 where
+pub record TextHolds (t : Text) (bytes : List ℕ) (most : ℕ) : Type 0 where
   pub text : textOf t ≡ bytes
   pub size : t .len ≤ most

@@ -2,11 +2,11 @@
 use crate::text::empty;
 use crate::text::put;
 use crate::text::with_signed;
-use wire::writing::write;
+use ground::writing::write;
 ghost use mathlib.Core.Path.{_≡_};
 ghost use Prim.Native.Nat.{_*_, _≤_, _<_};
 ghost use lib.ListN.{length, drop};
-ghost use Rattle.wire.specs.Writing.{over, Wrote};
+ghost use Rattle.ground.specs.Writing.{over, Wrote};
 ghost use Rattle.numerals.specs.Digits.{MAX-DIGITS, statusText, hexByte, hexOf, decimal as digitsOf, glyph as character};
 
 const BASE: u64 = 10;

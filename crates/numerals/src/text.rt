@@ -2,16 +2,16 @@
 use crate::number::PAIR;
 use crate::number::digits;
 use crate::number::hex;
-use pending::list::MAX_PENDING;
+use ground::writing::write;
+use limits::MAX_PENDING;
 use wire::status::is_negative;
 use wire::status::magnitude;
-use wire::writing::write;
 ghost use mathlib.Core.List.{[], _++_};
 ghost use Prim.Native.Nat.{_+_, _≤_};
 ghost use lib.ListN.{length};
-ghost use Rattle.wire.specs.Writing.{Wrote};
+ghost use Rattle.ground.specs.Writing.{Wrote};
 ghost use Rattle.numerals.specs.Digits.{MAX-DIGITS, ascii, decimal, statusText, hexOf};
-ghost use Rattle.numerals.specs.Texts.{TEXT-LEN, FIELD-LEN, textOf, Holds};
+ghost use Rattle.numerals.specs.Texts.{TEXT-LEN, FIELD-LEN, textOf, TextHolds};
 
 // The most that a word, a field, a line and a dropped ticket's line take, and all of them together, as in specs/Texts.antt.
 const WORD_LEN: usize = 8;
@@ -31,7 +31,7 @@ pub struct Text {
 }
 
 pub fn empty() -> Text
-    ensures { λ r. ⌜ Holds r [] 0 ⌝ }
+    ensures { λ r. ⌜ TextHolds r [] 0 ⌝ }
 {
     Text {
         bytes: [0u8; TEXT_LEN],
@@ -41,7 +41,7 @@ pub fn empty() -> Text
 
 pub fn added(t: Text, bytes: &[u8]) -> Text
     requires { ⌜ t .len + length (now bytes) ≤ TEXT-LEN ⌝ }
-    ensures { λ r. ⌜ Holds r (textOf t ++ now (bytes .entry)) (t .len + length (now (bytes .entry))) ⌝ }
+    ensures { λ r. ⌜ TextHolds r (textOf t ++ now (bytes .entry)) (t .len + length (now (bytes .entry))) ⌝ }
 {
     let mut text = t.bytes;
     let len = t.len;
@@ -55,7 +55,7 @@ pub fn added(t: Text, bytes: &[u8]) -> Text
 // The word that a line begins with.
 pub fn begun(word: &[u8]) -> Text
     requires { ⌜ length (now word) ≤ TEXT-LEN ⌝ }
-    ensures { λ r. ⌜ Holds r (now (word .entry)) (length (now (word .entry))) ⌝ }
+    ensures { λ r. ⌜ TextHolds r (now (word .entry)) (length (now (word .entry))) ⌝ }
 {
     let e = empty();
     added(e, word)
@@ -63,7 +63,7 @@ pub fn begun(word: &[u8]) -> Text
 
 fn with_digits(t: Text, n: u64) -> Text
     requires { ⌜ t .len + MAX-DIGITS ≤ TEXT-LEN ⌝ }
-    ensures { λ r. ⌜ Holds r (textOf t ++ decimal n) (t .len + MAX-DIGITS) ⌝ }
+    ensures { λ r. ⌜ TextHolds r (textOf t ++ decimal n) (t .len + MAX-DIGITS) ⌝ }
 {
     let d = digits(n);
     let bytes = d.bytes;
@@ -74,7 +74,7 @@ fn with_digits(t: Text, n: u64) -> Text
 // A status, in its 32 bits.
 pub(crate) fn with_signed(t: Text, status: u32) -> Text
     requires { ⌜ t .len + 1 + MAX-DIGITS ≤ TEXT-LEN ⌝ }
-    ensures { λ r. ⌜ Holds r (textOf t ++ statusText status) (t .len + 1 + MAX-DIGITS) ⌝ }
+    ensures { λ r. ⌜ TextHolds r (textOf t ++ statusText status) (t .len + 1 + MAX-DIGITS) ⌝ }
 {
     let size = magnitude(status);
     let n = size as u64;
@@ -88,7 +88,7 @@ pub(crate) fn with_signed(t: Text, status: u32) -> Text
 // One more field: a number.
 pub fn with_number(t: Text, n: u64) -> Text
     requires { ⌜ t .len + FIELD-LEN ≤ TEXT-LEN ⌝ }
-    ensures { λ r. ⌜ Holds r (textOf t ++ (ascii " " ++ decimal n)) (t .len + FIELD-LEN) ⌝ }
+    ensures { λ r. ⌜ TextHolds r (textOf t ++ (ascii " " ++ decimal n)) (t .len + FIELD-LEN) ⌝ }
 {
     let spaced = added(t, b" ");
     with_digits(spaced, n)
@@ -97,7 +97,7 @@ pub fn with_number(t: Text, n: u64) -> Text
 // One more field: a status.
 pub fn with_status(t: Text, status: u32) -> Text
     requires { ⌜ t .len + FIELD-LEN ≤ TEXT-LEN ⌝ }
-    ensures { λ r. ⌜ Holds r (textOf t ++ (ascii " " ++ statusText status)) (t .len + FIELD-LEN) ⌝ }
+    ensures { λ r. ⌜ TextHolds r (textOf t ++ (ascii " " ++ statusText status)) (t .len + FIELD-LEN) ⌝ }
 {
     let spaced = added(t, b" ");
     with_signed(spaced, status)
@@ -106,7 +106,7 @@ pub fn with_status(t: Text, status: u32) -> Text
 // The line ends.
 pub fn ended(t: Text) -> Text
     requires { ⌜ t .len + 1 ≤ TEXT-LEN ⌝ }
-    ensures { λ r. ⌜ Holds r (textOf t ++ ascii "\n") (t .len + 1) ⌝ }
+    ensures { λ r. ⌜ TextHolds r (textOf t ++ ascii "\n") (t .len + 1) ⌝ }
 {
     added(t, b"\n")
 }

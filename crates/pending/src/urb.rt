@@ -1,24 +1,41 @@
 // A pending URB: what a submit said, under its ticket.
+use messages::message::Transfer;
 use wire::codes::SETUP_LEN;
+ghost use mathlib.Core.Path.{_≡_};
+ghost use Rattle.pending.specs.Pending.{noTransfer, blank};
 
-// The numbers of an accepted submit. The ticket is 01's word for the number, counted from 1, by which the device side knows a
-// URB; length is transfer_buffer_length, frame start_frame, packets number_of_packets.
-#[repr(C)]
-pub struct Transfer {
-    pub ticket: u64,
-    pub seqnum: u32,
-    pub direction: u32,
-    pub ep: u32,
-    pub flags: u32,
-    pub length: u32,
-    pub frame: u32,
-    pub packets: u32,
-    pub interval: u32,
-}
-
-// The whole record: the numbers, which travel inside an event, and the setup bytes, which travel beside it.
+// The ticket is the rules' word (PROTOCOL.md, 2) for the number, counted from 1, by which the device side knows a URB.
 #[repr(C)]
 pub struct Urb {
+    pub ticket: u64,
     pub transfer: Transfer,
     pub setup: [u8; SETUP_LEN],
+}
+
+pub(crate) fn no_transfer() -> Transfer
+    ensures { λ r. ⌜ r ≡ noTransfer ⌝ }
+{
+    Transfer {
+        seqnum: 0,
+        direction: 0,
+        ep: 0,
+        flags: 0,
+        length: 0,
+        start: 0,
+        packets: 0,
+        interval: 0,
+    }
+}
+
+impl Urb {
+    // What stands in a free place.
+    pub fn blank() -> Urb
+        ensures { λ r. ⌜ r ≡ blank ⌝ }
+    {
+        Urb {
+            ticket: 0,
+            transfer: no_transfer(),
+            setup: [0u8; SETUP_LEN],
+        }
+    }
 }

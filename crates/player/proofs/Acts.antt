@@ -5,48 +5,42 @@ use mathlib.Core.Bool.{Bool}
 use mathlib.Core.List.{List}
 use lib.ListN.{replicate}
 use Rattle.wire.specs.Codes
-use Rattle.model.specs.Model.{Sess, Buffers, Complete, Close, completeOf, closeOf}
+use Rattle.model.specs.State.{Sess}
+use Rattle.model.specs.Acts.{Buffers, Complete, Close, completeOf, closeOf}
 use Rattle.events.specs.Answers.{completionOf, closingOf}
-use Rattle.settling.specs.Completing.{handed}
-use Rattle.session.specs.Views.{completedAs, closedAs}
-use Rattle.events.specs.declared.answer.Completion.{Completion}
-use Rattle.events.specs.declared.answer.Completion.the-variants.{Return, Refused}
+use Rattle.session.specs.Views.{completedAs, closedAs, handed}
 use Rattle.session.specs.declared.answer.Completed.{Completed}
 use Rattle.session.specs.declared.answer.Closed.{Closed}
 use Rattle.tape.specs.Table.{deviceData}
 use Rattle.tape.specs.declared.reader.Record.{Record}
-use Rattle.lines.specs.Lines.{linesOf}
-use Rattle.traces.specs.Traces.{headerTrace}
-use Rattle.player.specs.Play.{Puts, headerText, completionText, playCompletion, playClose, playRecord}
+use Rattle.lines.specs.Lines.{closeLines}
+use Rattle.player.specs.Prints.{Puts, completionText}
+use Rattle.player.specs.Play.{playCompletion, playClose, playRecord}
 use Rattle.player.specs.Played.{Plays}
 use Rattle.player.specs.declared.record.Played.{Played}
 
-pub header-text : (a : Completion) (header : List ℕ) → headerText (completionOf a) header ≡ headerTrace a header
-header-text (Return n) header = refl
-header-text (Refused n) header = refl
-
-pub completion-played : (traced : Bool) (ticket status actual : ℕ) (r : Completed) (s : Sess) (frame left entry exit : List ℕ) (len : ℕ)
-    → frame ≡ deviceData
-    → completedAs r left ≡ completeOf s (handed ticket status actual frame (replicate Codes.HEADER-LEN 0))
+pub completion-played : (traced : Bool) (ticket status actual : ℕ) (r : Completed) (s : Sess) (payload left entry exit : List ℕ) (len : ℕ)
+    → payload ≡ deviceData
+    → completedAs r left ≡ completeOf s (handed ticket status actual payload (replicate Codes.HEADER-LEN 0))
     → Puts (completionText traced ticket status actual (completionOf (r .answer)) left) entry exit len
     → (b : Buffers) → Plays (record { session = r .session; len = len }) (playCompletion traced ticket status actual s b) b entry exit
-completion-played traced ticket status actual r s frame left entry exit len f e p b =
+completion-played traced ticket status actual r s payload left entry exit len f e p b =
     let d : completedAs r left ≡ completeOf s (handed ticket status actual deviceData (replicate Codes.HEADER-LEN 0)) = rw f at e in
     record {
       next = ap (λ (x : Complete). x .next) d;
       buffers = refl;
-      lines = subst (λ (x : Complete). Puts (completionText traced ticket status actual (x .event) (x .header)) entry exit len) d p;
+      lines = subst (λ (x : Complete). Puts (completionText traced ticket status actual (x .answer) (x .header)) entry exit len) d p;
     }
 
 pub close-played : (r : Closed) (s : Sess) (entry exit : List ℕ) (len : ℕ)
     → closedAs r ≡ closeOf s
-    → Puts (linesOf (closingOf (r .answer) (r .dropped))) entry exit len
+    → Puts (closeLines (closingOf (r .answer) (r .dropped))) entry exit len
     → (b : Buffers) → Plays (record { session = r .session; len = len }) (playClose s b) b entry exit
 close-played r s entry exit len e p b =
     record {
       next = ap (λ (x : Close). x .next) e;
       buffers = refl;
-      lines = subst (λ (x : Close). Puts (linesOf (x .event)) entry exit len) e p;
+      lines = subst (λ (x : Close). Puts (closeLines (x .answer)) entry exit len) e p;
     }
 
 -- by which record it is

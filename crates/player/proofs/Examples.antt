@@ -1,20 +1,22 @@
--- Tapes played by the definitions: 01's example, and how a record's stream bytes are fed.
+-- Tapes played by the definitions: the sample tape, and how a record's stream bytes are fed.
 use Prim.Native.Nat.{ℕ}
 use mathlib.Core.Path.{_≡_, refl}
 use mathlib.Core.Bool.{Bool, false}
 use mathlib.Core.List.{List, [], _∷_, _++_, map}
 use lib.ListN.{length, take, drop, replicate}
 use Rattle.wire.specs.BigEndian.{bytesOf}
-use Rattle.wire.specs.Fields.{joined}
+use Rattle.ground.specs.Lists.{joined}
 use Rattle.exports.specs.Rules.{text, goodDevice}
 use Rattle.tables.specs.Tables.{goodTable}
 use Rattle.records.specs.Records.{deviceRecord}
 use Rattle.importing.specs.Imports.{importReply, importRefusal}
-use Rattle.listing.specs.Lists.{listed, listReply}
-use Rattle.verdicts.specs.Limits
-use Rattle.verdicts.specs.Tests.{decide, pick}
+use Rattle.listing.specs.Lists.{listedDevice, listReply}
+use Rattle.limits.specs.Limits
+use Rattle.ground.specs.Tests.{decide, pick}
 use Rattle.model.specs.Machine.{feed}
-use Rattle.model.specs.Model.{Sess, Buffers, urbOf, bodyOf, submitted, submitting, headed, message, requested, lookedUp, request, judge, replyTo, grow, put, tell, feedOf, completeOf, closeOf, openOf}
+use Rattle.model.specs.State.{Sess}
+use Rattle.model.specs.Judging.{grow, submitted, submitting, wholeHeader, message, requested, lookedUp, request, judge}
+use Rattle.model.specs.Acts.{Buffers, replyTo, put, writeReply, feedOf, completeOf, closeOf, openOf}
 use Rattle.feeding.specs.Feeding.{fedOf}
 use Rattle.tape.specs.Tape.{recordBytes}
 use Rattle.tape.specs.Table.{tapeTable}
@@ -53,7 +55,7 @@ list = words (0x01118005 ∷ 0 ∷ [])
 abbrev import : List ℕ
 import = words (0x01118003 ∷ 0 ∷ 0x312d3100 ∷ 0 ∷ 0 ∷ 0 ∷ 0 ∷ 0 ∷ 0 ∷ 0 ∷ [])
 
--- 000's CmdIntrIN
+-- the kernel document's CmdIntrIN
 abbrev intrIn : List ℕ
 intrIn = words (1 ∷ 0xd05 ∷ 0x0001000f ∷ 1 ∷ 1 ∷ 0x200 ∷ 64 ∷ 0xffffffff ∷ 0 ∷ 4 ∷ 0 ∷ 0 ∷ [])
 
@@ -75,5 +77,7 @@ pub examples :
     ∷ ascii "list\nrefused 3\n"
     ∷ ascii "import 0\nsubmit 1 3333\nunlink 3335 -104\n"
     ∷ []
-unfolding text goodDevice goodTable deviceRecord listed listReply importReply importRefusal decide pick feed urbOf bodyOf submitted submitting headed message requested lookedUp request judge replyTo grow put tell feedOf completeOf closeOf openOf fedOf tapeTable numeral digits playStream
+unfolding text goodDevice goodTable tapeTable deviceRecord listedDevice listReply importReply importRefusal
+    decide pick feed grow submitted submitting wholeHeader message requested lookedUp request
+    judge replyTo put writeReply feedOf completeOf closeOf openOf fedOf numeral digits playStream
 examples = refl

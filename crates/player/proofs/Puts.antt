@@ -1,22 +1,25 @@
 -- Lines put one after the other.
 use Prim.Native.Nat.{ℕ, _+_, _-_, _≤_}
 use mathlib.Core.Path.{_≡_, refl, sym, _∙_}
-use mathlib.Core.Bool.{Bool, true, false, cond}
+use mathlib.Core.Bool.{Bool, true}
 use mathlib.Core.List.{List, [], _++_, append-nil}
 use native.Mathlib.Omega.{arith}
 use lib.ListN.{length, take, drop, length-append, length-take, length-drop}
 use lib.Seq.{take-all, length-take-le}
-use Rattle.wire.specs.Writing.{Wrote}
-use Rattle.wire.proofs.Parts.{wrote-all, wrote-count, written-behind}
-use Rattle.events.specs.Answers.{removed}
-use Rattle.events.specs.declared.answer.Removed.{Removed}
-use Rattle.events.specs.declared.answer.Removed.the-variants.{Ticket, Nothing}
-use Rattle.traces.specs.Traces.{removedTrace}
-use Rattle.player.specs.Play.{Puts, besideText, ends}
+use Rattle.ground.specs.Writing.{Wrote}
+use Rattle.ground.proofs.Parts.{wrote-all, wrote-count, written-behind}
+use Rattle.player.specs.Prints.{Puts, withTraces}
 
 -- the part of a slice from a place to its end
-pub part-end : (l : List ℕ) (n i : ℕ) → length l ≡ n → take (n - i) (drop i l) ≡ drop i l
-part-end l n i e = take-all (n - i) (drop i l) (rw length-drop (omega arith))
+abbrev pub rest : List ℕ → ℕ → List ℕ
+rest out n = take (length out - n) (drop n out)
+
+pub rest-drop : (out : List ℕ) (n : ℕ) → rest out n ≡ drop n out
+rest-drop out n = take-all (length out - n) (drop n out) (rw length-drop (omega arith))
+
+-- the slice when a callee that was lent this part left these bytes there
+abbrev pub behind : List ℕ → ℕ → List ℕ → List ℕ
+behind out n ys = take n out ++ (ys ++ drop (length out - n) (drop n out))
 
 pub puts-none : (d : List ℕ) → Puts [] d d 0
 puts-none d = record { within = omega arith; put = λ h. (refl, refl) }
@@ -29,33 +32,25 @@ puts-wrote B d x n w =
       put = λ h. (wrote-count B d x n h w, wrote-all B d x n h w);
     }
 
--- by a callee that was lent the part behind what was put first, to the end
-pub puts-next : (A B D out ys : List ℕ) (L n m : ℕ) → length out ≡ L → length D ≡ L → length ys ≡ length (take (L - n) (drop n out))
-    → Puts A D out n → Puts B (take (L - n) (drop n out)) ys m
-    → Puts (A ++ B) D (take n out ++ (ys ++ drop (L - n) (drop n out))) (n + m)
-puts-next A B D out ys L n m l k y p q =
-    let e : length ys ≡ L - n = y ∙ simp (length-take, length-drop) (omega arith) in
-    record {
-      within = simp (length-append, length-take-le n out (omega (arith, p .within))) (omega (arith, q .within));
-      put = λ h.
-          let s : length A + length B ≤ length D = rw length-append at h in
-          let a = p .put (omega arith) in
-          let b = q .put (simp (length-take, length-drop) (omega (arith, a .0))) in
-          (omega (arith, a .0, b .0, length-append A B), written-behind D out A B ys n L l (sym (a .0)) (a .1) (b .1));
-    }
+-- with nothing behind them
+pub puts-alone : {A entry out : List ℕ} {n : ℕ} → Puts A entry out n → Puts (A ++ []) entry out n
+puts-alone {A = A} p = rw (append-nil A) p
 
--- what only a trace adds
-pub with-trace : (t : Bool) (L T D x : List ℕ) (n : ℕ) → t ≡ true → Puts (L ++ T) D x n → Puts (L ++ cond t T []) D x n
-with-trace t L T D x n e p = rw e p
+module _ {A B entry out ys : List ℕ} {n m : ℕ} (p : Puts A entry out n) (q : Puts B (rest out n) ys m)
+    (l : length out ≡ length entry) (k : length ys ≡ length (rest out n)) where
+  -- by a callee that was lent the part behind what was put first
+  pub puts-next : Puts (A ++ B) entry (behind out n ys) (n + m)
+  puts-next =
+      let e : length ys ≡ length out - n = k ∙ simp (length-take, length-drop) (omega arith) in
+      record {
+        within = simp (length-append, length-take-le n out (omega (arith, p .within))) (omega (arith, q .within));
+        put = λ h.
+            let s : length A + length B ≤ length entry = rw length-append at h in
+            let a = p .put (omega arith) in
+            let b = q .put (simp (length-take, length-drop) (omega (arith, a .0))) in
+            (omega (arith, a .0, b .0, length-append A B), written-behind entry out A B ys n (length out) refl (sym (a .0)) (a .1) (b .1));
+      }
 
-pub without-trace : (t : Bool) (L T D x : List ℕ) (n : ℕ) → t ≡ false → Puts L D x n → Puts (L ++ cond t T []) D x n
-without-trace t L T D x n e p = rw (e, append-nil L) p
-
--- the ticket that an unlink removed
-pub removed-text : (q st : ℕ) (t : Removed) (work : List ℕ) → besideText (removed q st t) work ≡ removedTrace t
-removed-text q st (Ticket t) work = refl
-removed-text q st Nothing work = refl
-
-pub removed-goes-on : (q st : ℕ) (t : Removed) → ends (removed q st t) ≡ false
-removed-goes-on q st (Ticket t) = refl
-removed-goes-on q st Nothing = refl
+  -- the same of what only a trace adds
+  pub puts-traced : {traced : Bool} → traced ≡ true → Puts (withTraces traced A B) entry (behind out n ys) (n + m)
+  puts-traced t = rw t puts-next

@@ -14,18 +14,18 @@ ghost use Rattle.model.specs.Cut.{lent};
 ghost use Rattle.events.specs.Answers.{eventOf};
 ghost use Rattle.feeding.specs.Feeding.{fedOf};
 ghost use Rattle.session.specs.Views.{viewOf};
-ghost use Rattle.player.specs.Play.{ends, playStream};
+ghost use Rattle.player.specs.Play.{endsStream, playStream};
 ghost use Rattle.player.specs.Played.{Tells, Plays};
 
 // Whether nothing more of a record is fed after an event.
 fn is_end(event: Event) -> bool
-    ensures { λ r. ⌜ ((setup : List ℕ) (dropped : Tickets) → r ≡ ends (eventOf event setup dropped)) ⌝ }
+    ensures { λ r. ⌜ ((setup : List ℕ) (dropped : Tickets) → r ≡ endsStream (eventOf event setup dropped)) ⌝ }
 {
     match event {
         Event::Hungry => false,
         Event::List => true,
         Event::Import(status) => status != 0,
-        Event::Submit(_) => false,
+        Event::Submit(_, _) => false,
         Event::Answer(_, _) => false,
         Event::Unlink(_, _, _) => false,
         Event::Break(_) => true,
@@ -49,13 +49,16 @@ fn feed_once(
     reply: &mut [u8],
     out: &mut [u8],
 ) -> Told
-    ensures { λ r. ⌜ Tells traced r (fedOf (viewOf session) (lent (now (work .entry)) (now (reply .entry))) (now (piece .entry))) (lent (now (work .exit)) (now (reply .exit))) (now (out .entry)) (now (out .exit)) ⌝ }
+    ensures { λ r.
+        ⌜ Tells traced r (fedOf (viewOf session) (lent (now (work .entry)) (now (reply .entry))) (now (piece .entry)))
+        (lent (now (work .exit)) (now (reply .exit))) (now (out .entry)) (now (out .exit)) ⌝ }
 {
     let fed = session.feed(piece, work, reply);
     let answer = fed.answer;
     let next = fed.session;
     let event = answer.event;
-    let len = put_feed(traced, answer, work, reply, out);
+    let dropped = fed.dropped;
+    let len = put_feed(traced, answer, dropped, work, reply, out);
     Told {
         session: next,
         consumed: answer.consumed,
@@ -87,7 +90,9 @@ pub(crate) fn play_stream(
     reply: &mut [u8],
     out: &mut [u8],
 ) -> Played
-    ensures { λ r. ⌜ Plays r (playStream traced (length (now (bytes .entry))) (viewOf session) (lent (now (work .entry)) (now (reply .entry))) (now (bytes .entry))) (lent (now (work .exit)) (now (reply .exit))) (now (out .entry)) (now (out .exit)) ⌝ }
+    ensures { λ r.
+        ⌜ Plays r (playStream traced (length (now (bytes .entry))) (viewOf session) (lent (now (work .entry)) (now (reply .entry))) (now (bytes .entry)))
+        (lent (now (work .exit)) (now (reply .exit))) (now (out .entry)) (now (out .exit)) ⌝ }
 {
     let mut s = session;
     let mut at: usize = 0;

@@ -7,7 +7,7 @@ use tape::reader::Record;
 use tape::reader::stream_bytes;
 use tape::table::device_data;
 use wire::codes::HEADER_LEN;
-ghost use Rattle.model.specs.Model.{Buffers};
+ghost use Rattle.model.specs.Acts.{Buffers};
 ghost use Rattle.model.specs.Cut.{lent};
 ghost use Rattle.session.specs.Views.{viewOf};
 ghost use Rattle.player.specs.Play.{playCompletion, playClose, playRecord};
@@ -28,11 +28,12 @@ fn play_completion(
     actual: u32,
     out: &mut [u8],
 ) -> Played
-    ensures { λ r. ⌜ ((b : Buffers) → Plays r (playCompletion traced ticket status actual (viewOf session) b) b (now (out .entry)) (now (out .exit))) ⌝ }
+    ensures { λ r.
+        ⌜ ((b : Buffers) → Plays r (playCompletion traced ticket status actual (viewOf session) b) b (now (out .entry)) (now (out .exit))) ⌝ }
 {
-    let frame = device_data();
+    let data = device_data();
     let mut header = [0u8; HEADER_LEN];
-    let done = session.complete(ticket, status, actual, &frame, &mut header);
+    let done = session.complete(ticket, status, actual, &data, &mut header);
     let answer = done.answer;
     let next = done.session;
     let len = put_completion(traced, ticket, status, actual, answer, &header, out);
@@ -67,7 +68,9 @@ pub fn play_record(
     reply: &mut [u8],
     out: &mut [u8],
 ) -> Played
-    ensures { λ p. ⌜ Plays p (playRecord traced r (now (bytes .entry)) (viewOf session) (lent (now (work .entry)) (now (reply .entry)))) (lent (now (work .exit)) (now (reply .exit))) (now (out .entry)) (now (out .exit)) ⌝ }
+    ensures { λ p.
+        ⌜ Plays p (playRecord traced r (now (bytes .entry)) (viewOf session) (lent (now (work .entry)) (now (reply .entry))))
+        (lent (now (work .exit)) (now (reply .exit))) (now (out .entry)) (now (out .exit)) ⌝ }
 {
     match r {
         Record::Stream(count) => {

@@ -4,7 +4,8 @@ use events::answer::Completion;
 use events::answer::Event;
 use lines::replay::complete_line;
 use lines::replay::feed_lines;
-use pending::urb::Transfer;
+use messages::message::Transfer;
+use pending::list::Tickets;
 use traces::trace_data;
 use traces::trace_feed;
 use traces::trace_header;
@@ -14,8 +15,9 @@ use wire::codes::DIR_OUT;
 use wire::codes::SETUP_LEN;
 ghost use mathlib.Core.Path.{_≡_};
 ghost use lib.ListN.{take};
+ghost use Rattle.pending.specs.declared.list.Tickets.{Tickets};
 ghost use Rattle.events.specs.Answers.{eventOf, completionOf};
-ghost use Rattle.player.specs.Play.{Puts, dataLength, submitText, besideText, tracedText, feedText, completionText};
+ghost use Rattle.player.specs.Prints.{Puts, dataLength, submitTraces, eventTraces, feedTraces, feedText, completionText};
 
 // The first n bytes, or as many as there are.
 pub(crate) fn front(bytes: &[u8], n: usize) -> &[u8]
@@ -38,22 +40,30 @@ fn data_len(direction: u32, length: u32) -> usize
 }
 
 // What a trace adds for an accepted submit: its record, and its data.
-fn put_submit(u: Transfer, setup: [u8; SETUP_LEN], work: &[u8], out: &mut [u8]) -> usize
-    ensures { λ n. ⌜ Puts (submitText (record { transfer = u; setup = setup }) (now (work .entry))) (now (out .entry)) (now (out .exit)) n ⌝ }
+fn put_submit(
+    ticket: u64,
+    u: Transfer,
+    setup: [u8; SETUP_LEN],
+    work: &[u8],
+    out: &mut [u8],
+) -> usize
+    ensures { λ n.
+        ⌜ Puts (submitTraces (record { ticket = ticket; transfer = u; setup = setup }) (now (work .entry))) (now (out .entry)) (now (out .exit)) n ⌝ }
 {
-    let n = trace_record(u, setup, out);
+    let n = trace_record(ticket, u, setup, out);
     let size = data_len(u.direction, u.length);
     n + trace_data(front(work, size), &mut out[n..])
 }
 
 // What a trace adds for an event: besides, the ticket that an unlink removed.
 fn put_beside(a: Answer, work: &[u8], out: &mut [u8]) -> usize
-    ensures { λ n. ⌜ Puts (besideText (eventOf (a .event) (a .setup) (a .dropped)) (now (work .entry))) (now (out .entry)) (now (out .exit)) n ⌝ }
+    ensures { λ n.
+        ⌜ ((ts : Tickets) → Puts (eventTraces (eventOf (a .event) (a .setup) ts) (now (work .entry))) (now (out .entry)) (now (out .exit)) n) ⌝ }
 {
     let event = a.event;
     let setup = a.setup;
     match event {
-        Event::Submit(u) => put_submit(u, setup, work, out),
+        Event::Submit(ticket, u) => put_submit(ticket, u, setup, work, out),
         Event::Unlink(_, _, t) => trace_removed(t, out),
         Event::Hungry => 0,
         Event::List => 0,
@@ -66,17 +76,29 @@ fn put_beside(a: Answer, work: &[u8], out: &mut [u8]) -> usize
 
 // What a trace adds for a feed: what it consumed and replied, and what goes with its event.
 fn put_traced(a: Answer, work: &[u8], reply: &[u8], out: &mut [u8]) -> usize
-    ensures { λ n. ⌜ Puts (tracedText (eventOf (a .event) (a .setup) (a .dropped)) (a .consumed) (a .length) (now (work .entry)) (now (reply .entry))) (now (out .entry)) (now (out .exit)) n ⌝ }
+    ensures { λ n.
+        ⌜ ((ts : Tickets)
+        → Puts (feedTraces (eventOf (a .event) (a .setup) ts) (a .consumed) (a .length) (now (work .entry)) (now (reply .entry)))
+        (now (out .entry)) (now (out .exit)) n) ⌝ }
 {
     let n = trace_feed(a.consumed, a.length, front(reply, a.length), out);
     n + put_beside(a, work, &mut out[n..])
 }
 
 // The lines of a feed.
-pub(crate) fn put_feed(traced: bool, a: Answer, work: &[u8], reply: &[u8], out: &mut [u8]) -> usize
-    ensures { λ n. ⌜ Puts (feedText traced (eventOf (a .event) (a .setup) (a .dropped)) (a .consumed) (a .length) (now (work .entry)) (now (reply .entry))) (now (out .entry)) (now (out .exit)) n ⌝ }
+pub(crate) fn put_feed(
+    traced: bool,
+    a: Answer,
+    dropped: Tickets,
+    work: &[u8],
+    reply: &[u8],
+    out: &mut [u8],
+) -> usize
+    ensures { λ n.
+        ⌜ Puts (feedText traced (eventOf (a .event) (a .setup) dropped) (a .consumed) (a .length) (now (work .entry)) (now (reply .entry)))
+        (now (out .entry)) (now (out .exit)) n ⌝ }
 {
-    let n = feed_lines(a, out);
+    let n = feed_lines(a, dropped, out);
     if traced {
         return n + put_traced(a, work, reply, &mut out[n..]);
     }
@@ -93,7 +115,8 @@ pub(crate) fn put_completion(
     header: &[u8],
     out: &mut [u8],
 ) -> usize
-    ensures { λ n. ⌜ Puts (completionText traced ticket status actual (completionOf answer) (now (header .entry))) (now (out .entry)) (now (out .exit)) n ⌝ }
+    ensures { λ n.
+        ⌜ Puts (completionText traced ticket status actual (completionOf answer) (now (header .entry))) (now (out .entry)) (now (out .exit)) n ⌝ }
 {
     let n = complete_line(ticket, status, actual, answer, out);
     if traced {

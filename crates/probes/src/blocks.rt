@@ -1,16 +1,16 @@
 // An export table as bytes: a block for each device, its fields in the order of the struct, each big-endian.
 use exports::device::Device;
 use exports::device::Interface;
-use exports::device::MAX_DEVICES;
-use exports::device::MAX_INTERFACES;
-use exports::device::PATH_LEN;
 use exports::device::Table;
+use ground::writing::write;
+use limits::MAX_DEVICES;
+use limits::MAX_INTERFACES;
+use limits::PATH_LEN;
 use wire::codes::BUSID_LEN;
 use wire::number::be2;
 use wire::number::be4;
-use wire::writing::write;
 ghost use Prim.Native.Nat.{_+_, _<_, _≤_};
-ghost use Rattle.exports.specs.Devices.{MAX-DEVICES, MAX-INTERFACES};
+ghost use Rattle.limits.specs.Limits.{MAX-DEVICES, MAX-INTERFACES};
 ghost use Rattle.probes.specs.Blocks.{BLOCK-LEN};
 
 const BUSID_AT: usize = PATH_LEN;

@@ -1,10 +1,10 @@
 // Answers as numbers: a C function may not hand back an enum.
 use events::answer::Completion;
 use events::answer::Event;
-use events::answer::Numbers;
 use events::answer::Removed;
+use messages::message::Transfer;
+use pending::counts::Numbers;
 use pending::list::Tickets;
-use pending::urb::Transfer;
 use wire::codes::SETUP_LEN;
 
 // The kinds of an event.
@@ -24,14 +24,15 @@ const BREAK: u32 = 6;
 
 const REFUSED: u32 = 7;
 
-// An event as numbers: its kind, the seqnum or number that it has, its status, the ticket removed (0: none), and a submit's
-// record. What an event doesn't have is 0.
+// An event as numbers: its kind, the seqnum or number that it has, its status, the ticket removed (0: none), and an accepted
+// submit's ticket and transfer. What an event doesn't have is 0.
 #[repr(C)]
 pub struct FlatEvent {
     pub kind: u32,
     pub number: u32,
     pub status: u32,
     pub removed: u64,
+    pub ticket: u64,
     pub transfer: Transfer,
 }
 
@@ -66,13 +67,12 @@ pub struct FlatCompletion {
 
 fn no_transfer() -> Transfer {
     Transfer {
-        ticket: 0,
         seqnum: 0,
         direction: 0,
         ep: 0,
         flags: 0,
         length: 0,
-        frame: 0,
+        start: 0,
         packets: 0,
         interval: 0,
     }
@@ -84,6 +84,7 @@ fn bare_event(kind: u32, number: u32, status: u32) -> FlatEvent {
         number: number,
         status: status,
         removed: 0,
+        ticket: 0,
         transfer: no_transfer(),
     }
 }
@@ -100,9 +101,10 @@ pub(crate) fn event_as_numbers(event: Event) -> FlatEvent {
         Event::Hungry => bare_event(HUNGRY, 0, 0),
         Event::List => bare_event(LIST, 0, 0),
         Event::Import(status) => bare_event(IMPORT, 0, status),
-        Event::Submit(t) => {
+        Event::Submit(ticket, t) => {
             let plain = bare_event(SUBMIT, 0, 0);
             FlatEvent {
+                ticket: ticket,
                 transfer: t,
                 ..plain
             }
@@ -115,7 +117,7 @@ pub(crate) fn event_as_numbers(event: Event) -> FlatEvent {
                 ..plain
             }
         }
-        Event::Break(n) => bare_event(BREAK, n, 0),
+        Event::Break(fault) => bare_event(BREAK, fault.number, 0),
         Event::Refused(n) => bare_event(REFUSED, n, 0),
     }
 }

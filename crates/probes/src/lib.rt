@@ -13,17 +13,18 @@ use crate::flat::completion_as_numbers;
 use crate::flat::event_as_numbers;
 use crate::flat::five_of;
 use events::answer::Opening;
+use ground::writing::write;
+use limits::REPLY_LEN;
+use limits::WORK_LEN;
 use lookup::Found;
 use lookup::find;
-use messages::message::Submit;
+use messages::message::Header;
+use messages::message::Transfer;
+use messages::message::blank_header;
 use session::state::Session;
 use tables::is_good;
-use verdicts::limits::REPLY_LEN;
-use verdicts::limits::WORK_LEN;
-use verdicts::verdict::Verdict;
-use verdicts::verdict::submit_verdict;
-use wire::codes::SETUP_LEN;
-use wire::writing::write;
+use verdicts::verdict::Acceptance;
+use verdicts::verdict::submit_status;
 ghost use Prim.Native.Nat.{_<_, _≤_};
 
 // Whether a table keeps the rules.
@@ -78,22 +79,20 @@ pub extern "C" fn probe_submit(
     pending: usize,
     accepted: u64,
 ) -> u32 {
-    let submit = Submit {
-        seqnum: 0,
-        devid: devid,
-        direction: 0,
+    let blank = blank_header();
+    let transfer = Transfer {
         ep: ep,
-        flags: 0,
-        length: 0,
-        frame: 0,
-        packets: 0,
-        interval: 0,
-        setup: [0u8; SETUP_LEN],
+        ..blank.transfer
     };
-    let verdict = submit_verdict(submit, attached, pending, accepted);
-    match verdict {
-        Verdict::Good => 0,
-        Verdict::Bad(n) => n,
+    let header = Header {
+        devid: devid,
+        transfer: transfer,
+        ..blank
+    };
+    let acceptance = submit_status(header, attached, pending, accepted);
+    match acceptance {
+        Acceptance::Accepted => 0,
+        Acceptance::Answered(status) => status,
     }
 }
 
@@ -171,7 +170,7 @@ pub extern "C" fn probe_feed(
     let answer = fed.answer;
     let event = answer.event;
     let setup = answer.setup;
-    let dropped = answer.dropped;
+    let dropped = fed.dropped;
     FlatFeed {
         event: event_as_numbers(event),
         consumed: answer.consumed as u64,

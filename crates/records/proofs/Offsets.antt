@@ -2,7 +2,7 @@
 use mathlib.Core.Path.{_≡_, refl}
 use mathlib.Core.List.{[], _∷_}
 use lib.ListN.{length, drop, getD, replicate}
-use Rattle.exports.specs.Devices.{MAX-INTERFACES}
+use Rattle.limits.specs.Limits.{MAX-INTERFACES}
 use Rattle.exports.specs.declared.device.Device.{Device}
 use Rattle.records.specs.Records.{deviceRecord}
 use Rattle.records.proofs.Records.{noInterface}

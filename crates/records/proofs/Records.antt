@@ -1,14 +1,13 @@
 -- The bytes of a device's record and of its interfaces.
-use Prim.Native.Nat.{ℕ, zero, suc, _<_}
-use mathlib.Core.Path.{_≡_, refl, sym, ap, _∙_}
-use mathlib.Core.List.{List, [], _∷_, _++_, map}
+use Prim.Native.Nat.{ℕ, _<_}
+use mathlib.Core.Path.{_≡_}
+use mathlib.Core.List.{List, _∷_, _++_}
 use native.Mathlib.Omega.{arith}
-use lib.ListN.{length, take, getD, length-append, length-map}
+use lib.ListN.{length, getD, length-append}
 use Rattle.wire.specs.BigEndian.{bytesOf}
-use Rattle.wire.specs.Fields.{joined}
 use Rattle.wire.proofs.Numbers.{one-byte}
 use Rattle.wire.proofs.Heads.{pack-length}
-use Rattle.records.specs.Records.{DEVICE-LEN, numbersOf, deviceRecord, Shaped}
+use Rattle.records.specs.Records.{DEVICE-LEN, numberFields, deviceRecord, Shaped}
 use Rattle.exports.specs.declared.device.Device.{Device}
 use Rattle.exports.specs.declared.device.Interface.{Interface}
 
@@ -16,19 +15,9 @@ use Rattle.exports.specs.declared.device.Interface.{Interface}
 abbrev pub noInterface : Interface
 noInterface = record { bInterfaceClass = 0; bInterfaceSubClass = 0; bInterfaceProtocol = 0 }
 
--- the length of an array of structs in a struct, as its type says it
-pub unmapped : (X Y : Type 0) (f : X → Y) (l : List X) (n : ℕ) → length (map f l) ≡ n → length l ≡ n
-unmapped X Y f l n h = sym (length-map l f) ∙ h
-
 pub record-length : (d : Device) → Shaped d → length (deviceRecord d) ≡ DEVICE-LEN
 unfolding deviceRecord
-record-length d s = simp (length-append, pack-length (numbersOf d)) (omega arith)
-
--- the bytes of each element, made first, and one straight after the other
-pub joined-records : {A : Type 0} (f : A → List ℕ) (n : ℕ) (xs : List A) → joined (λ r. r) (take n (map f xs)) ≡ joined f (take n xs)
-joined-records f zero xs = refl
-joined-records f (suc n) [] = refl
-joined-records f (suc n) (x ∷ xs) = ap (λ (l : List ℕ). f x ++ l) (joined-records f n xs)
+record-length d s = simp (length-append, pack-length (numberFields d)) (omega arith)
 
 -- ## A head that is written byte by byte, field after field
 

@@ -1,11 +1,11 @@
--- The bytes of a device and of its interfaces (01, "List reply"; source document 000, section 3).
+-- The bytes of a device and of its interfaces (PROTOCOL.md, 4.2).
 use Prim.Native.Nat.{ℕ}
 use mathlib.Core.Path.{_≡_}
 use mathlib.Core.List.{List, [], _∷_, _++_, map}
 use lib.ListN.{length}
 use Rattle.wire.specs.Codes.{BUSID-LEN}
 use Rattle.wire.specs.Fields.{Field, u8, u16, u32, pack}
-use Rattle.exports.specs.Devices.{MAX-INTERFACES, PATH-LEN}
+use Rattle.limits.specs.Limits.{MAX-INTERFACES, PATH-LEN}
 use Rattle.exports.specs.declared.device.Interface.{Interface}
 use Rattle.exports.specs.declared.device.Device.{Device}
 
@@ -20,8 +20,8 @@ abbrev pub INTERFACE-LEN : ℕ
 INTERFACE-LEN = 4
 
 -- A device's numbers, behind its path and its busid.
-abbrev pub numbersOf : Device → List Field
-numbersOf d =
+abbrev pub numberFields : Device → List Field
+numberFields d =
     u32 (d .busnum) ∷ u32 (d .devnum) ∷ u32 (d .speed) ∷
     u16 (d .idVendor) ∷ u16 (d .idProduct) ∷ u16 (d .bcdDevice) ∷
     u8 (d .bDeviceClass) ∷ u8 (d .bDeviceSubClass) ∷ u8 (d .bDeviceProtocol) ∷
@@ -29,7 +29,7 @@ numbersOf d =
 
 -- The 312 bytes of a device, in a list and in an import reply.
 unfoldable pub deviceRecord : Device → List ℕ
-deviceRecord d = d .path ++ d .busid ++ pack (numbersOf d)
+deviceRecord d = d .path ++ d .busid ++ pack (numberFields d)
 
 -- The 4 bytes of an interface: three, and a zero.
 abbrev pub interfaceRecord : Interface → List ℕ

@@ -1,8 +1,8 @@
 // The interfaces of devices, as the bytes that a list shows of them.
 use exports::device::Device;
 use exports::device::Interface;
-use exports::device::MAX_DEVICES;
-use exports::device::MAX_INTERFACES;
+use limits::MAX_DEVICES;
+use limits::MAX_INTERFACES;
 ghost use mathlib.Core.Path.{_≡_};
 ghost use mathlib.Core.List.{map};
 ghost use Rattle.records.specs.Records.{interfaceRecord, recordsOf};

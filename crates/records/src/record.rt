@@ -1,14 +1,14 @@
 // The record of a device, which a list and an import reply share.
 use exports::device::Device;
-use exports::device::PATH_LEN;
+use ground::writing::write;
+use limits::PATH_LEN;
 use wire::codes::BUSID_LEN;
 use wire::number::bytes2;
 use wire::number::bytes4;
-use wire::writing::write;
 ghost use mathlib.Core.Path.{_≡_};
 ghost use Rattle.wire.specs.Fields.{pack};
-ghost use Rattle.wire.specs.Writing.{Wrote};
-ghost use Rattle.records.specs.Records.{numbersOf, deviceRecord};
+ghost use Rattle.ground.specs.Writing.{Wrote};
+ghost use Rattle.records.specs.Records.{numberFields, deviceRecord};
 
 // The bytes of a device's numbers and of its whole record.
 const NUMBERS_LEN: usize = 24;
@@ -16,7 +16,7 @@ const NUMBERS_LEN: usize = 24;
 pub const DEVICE_LEN: usize = PATH_LEN + BUSID_LEN + NUMBERS_LEN;
 
 fn numbers(d: Device) -> [u8; NUMBERS_LEN]
-    ensures { λ r. ⌜ r ≡ pack (numbersOf d) ⌝ }
+    ensures { λ r. ⌜ r ≡ pack (numberFields d) ⌝ }
 {
     let b = bytes4(d.busnum);
     let n = bytes4(d.devnum);

@@ -2,7 +2,8 @@
 use Rattle.listing.proofs.Whole.{lists-all}
 use Rattle.transmit.proofs.Whole.{sent-whole, reply-sent}
 use Rattle.model.proofs.Runs.{every-run}
-use Rattle.model.proofs.Corollaries.{completion-sent, open-iff, refused-iff, empty-piece, accept-iff, attached-to, answered-stays, consumption, late-ticket, ended-ticket, cancelled-ticket}
+use Rattle.model.proofs.Corollaries.{open-iff, refused-iff, empty-piece, completion-sent, accept-iff, attached-to, answered-stays, consumption, late-ticket}
+use Rattle.model.proofs.Corollaries.{ended-ticket, cancelled-ticket}
 use Rattle.model.proofs.Cut.{consumes, cutting, cutting-answers, draining}
 use Rattle.model.proofs.Untouched.{untouched, work-free, keeps}
 use Rattle.exchanges.proofs.Known.{known}
@@ -14,7 +15,24 @@ pub demand-1 : Demand1
 demand-1 = (open-iff, refused-iff, empty-piece, untouched, keeps, code-refuses)
 
 pub demand-2 : Demand2
-demand-2 = (lists-all, sent-whole, reply-sent, completion-sent, accept-iff, attached-to, answered-stays, consumption, consumes, cutting, cutting-answers, draining, work-free, code-cutting, same-struct, known)
+demand-2 = (
+  lists-all,
+  sent-whole,
+  reply-sent,
+  completion-sent,
+  accept-iff,
+  attached-to,
+  answered-stays,
+  consumption,
+  consumes,
+  cutting,
+  cutting-answers,
+  draining,
+  work-free,
+  code-cutting,
+  same-struct,
+  known,
+)
 
 pub demand-3 : Demand3
 demand-3 = (every-run, code-run, late-ticket, ended-ticket, cancelled-ticket)

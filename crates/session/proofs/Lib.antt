@@ -1,6 +1,7 @@
 -- Why the code is what the definitions say.
 pub mod Opening
 pub mod Writing
+pub mod Planning
 pub mod Carrying
 pub mod Run
 pub mod Cuts

@@ -6,16 +6,13 @@ use mathlib.Core.List.{List, _++_}
 use lib.ListN.{length, take, drop, length-append}
 use lib.Seq.{sets, sets-eq, length-take-le}
 use Rattle.wire.specs.Codes
-use Rattle.wire.specs.Writing.{Wrote}
-use Rattle.wire.proofs.Parts.{written-next, over-front}
+use Rattle.ground.specs.Writing.{Wrote}
+use Rattle.ground.proofs.Parts.{written-next, over-front}
 use Rattle.messages.specs.Messages.{retSubmit, retUnlink}
 use Rattle.messages.specs.declared.reply.RetSubmit.{RetSubmit}
 use Rattle.messages.specs.declared.reply.RetUnlink.{RetUnlink}
 use Rattle.importing.specs.Imports.{importRefusal}
-use Rattle.exports.specs.declared.device.Table.{Table}
-use Rattle.verdicts.specs.Limits
-use Rattle.events.specs.Plans.{replyBytes}
-use Rattle.events.specs.declared.plan.Reply.{Reply}
+use Rattle.limits.specs.Limits
 
 -- bytes written at a place of the work buffer
 pub written-sets : (work xs ys : List ℕ) (at n count : ℕ) → length work ≡ n → at + length xs ≤ n → Wrote xs (take (n - at) (drop at work)) ys count
@@ -25,10 +22,10 @@ written-sets work xs ys at n count l h w =
     written-next work work (take at work) xs ys at n count l k (sym (over-front at work (omega arith))) h w
     ∙ rw (length-append (take at work) xs, k) (sym (sets-eq xs work at (omega arith)))
 
--- a reply of the plan, once its case is known
-pub reply-as : (t : Table) (y z : Reply) (d x : List ℕ) (n : ℕ) → y ≡ z → Wrote (replyBytes t z) d x n → length (replyBytes t z) ≤ Limits.REPLY-LEN
-    → Wrote (replyBytes t y) d x n × (length (replyBytes t y) ≤ Limits.REPLY-LEN)
-reply-as t y z d x n e w l = subst (λ (k : Reply). Wrote (replyBytes t k) d x n × (length (replyBytes t k) ≤ Limits.REPLY-LEN)) (sym e) (w, l)
+-- a reply, once its case is known
+pub reply-as : {R : Type 0} (bytes : R → List ℕ) (y z : R) (d x : List ℕ) (n : ℕ) → y ≡ z → Wrote (bytes z) d x n → length (bytes z) ≤ Limits.REPLY-LEN
+    → Wrote (bytes y) d x n × (length (bytes y) ≤ Limits.REPLY-LEN)
+reply-as {R = R} bytes y z d x n e w l = subst (λ (k : R). Wrote (bytes k) d x n × (length (bytes k) ≤ Limits.REPLY-LEN)) (sym e) (w, l)
 
 -- the replies that are shorter than the least buffer
 pub refused-length : length importRefusal ≡ Codes.OP-LEN

@@ -4,9 +4,9 @@ use Prim.Native.Nat.{ℕ}
 use mathlib.Core.Path.{_≡_}
 use mathlib.Core.List.{List}
 use Rattle.exports.specs.declared.device.Table.{Table}
-use Rattle.model.specs.Model
-use Rattle.model.specs.Model.{Buffers, openOf, completeOf, closeOf}
-use Rattle.events.specs.Answers.{openAnswer, droppedBeside}
+use Rattle.model.specs.Acts
+use Rattle.model.specs.Acts.{Buffers, openOf, completeOf, closeOf}
+use Rattle.events.specs.Answers.{openAnswer, ticketsOf, droppedByClose}
 use Rattle.events.specs.declared.answer.Event.the-variants.{Refused}
 use Rattle.events.specs.declared.answer.Completion.the-variants.{Refused as CompletionRefused}
 use Rattle.events.specs.declared.answer.Closing.the-variants.{Refused as ClosingRefused}
@@ -30,7 +30,7 @@ pub record Feeds (s : Session) (piece : List ℕ) (entry exit : Buffers) (r : Fe
   pub tidy : Tidy s → Tidy (r .session)
 
 -- A completion, with the header buffer at exit.
-pub record Completes (s : Session) (c : Model.Completion) (header : List ℕ) (r : Completed) : Type 0 where
+pub record Completes (s : Session) (c : Acts.Completion) (header : List ℕ) (r : Completed) : Type 0 where
   pub said : completedAs r header ≡ completeOf (viewOf s) c
   pub same : (n : ℕ) → r .answer ≡ CompletionRefused n → r .session ≡ s
   pub tidy : Tidy s → Tidy (r .session)
@@ -38,6 +38,6 @@ pub record Completes (s : Session) (c : Model.Completion) (header : List ℕ) (r
 -- A close, with the tickets beside its answer.
 pub record Closes (s : Session) (r : Closed) : Type 0 where
   pub said : closedAs r ≡ closeOf (viewOf s)
-  pub dropped : r .dropped ≡ droppedBeside (closeOf (viewOf s) .event)
+  pub dropped : r .dropped ≡ ticketsOf (droppedByClose (closeOf (viewOf s) .answer))
   pub same : (n : ℕ) → r .answer ≡ ClosingRefused n → r .session ≡ s
   pub tidy : Tidy s → Tidy (r .session)

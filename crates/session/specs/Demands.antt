@@ -40,4 +40,4 @@ Demand2 =
 -- "For every list of feeds, completions and closings from a fresh session .. the session agrees with the plain book", of the
 -- definitions and of the code's own sessions; and a ticket that is no longer pending never answers anything.
 abbrev pub Demand3 : Type 0
-Demand3 = Claims.Demand3 × CodeRun × Corollaries.LateTicket × Corollaries.EndedTicket × Corollaries.CancelledTicket
+Demand3 = Claims.EveryRun × CodeRun × Corollaries.LateTicket × Corollaries.EndedTicket × Corollaries.CancelledTicket

@@ -6,9 +6,10 @@ use mathlib.Core.List.{List, [], _∷_, map}
 use Rattle.exports.specs.declared.device.Table.{Table}
 use Rattle.pending.specs.Pending.{tickets}
 use Rattle.pending.specs.declared.list.Tickets.{Tickets}
-use Rattle.model.specs.Model
-use Rattle.model.specs.Model.{Event, hungry, list, import, submit, answer, unlink, break, refusal, return, end, Buffers}
-use Rattle.model.specs.Book.{Call, feed, complete, close, Answer, Book, opened, keep, pendingOf}
+use Rattle.model.specs.Answers.{Outcome, refused, done, Event, hungry, list, import, submit, answer, unlink, break}
+use Rattle.model.specs.Acts
+use Rattle.model.specs.Acts.{Buffers}
+use Rattle.model.specs.Book.{Call, feed, complete, close, Entry, fed, completed, closing, Book, opened, keep, pendingOf}
 use Rattle.model.specs.Claims.{Holds}
 use Rattle.model.specs.Corollaries.{sessionFrom, bookFrom}
 use Rattle.events.specs.Answers.{eventOf, completionOf, closingOf, ticketsOf}
@@ -24,43 +25,43 @@ use Rattle.session.specs.declared.answer.Closed.{Closed}
 
 -- A call of the code, with what it handed back and left in the lent buffers.
 pub data Act : Type 0 where
-  feeding : (piece : List ℕ) → (entry exit : Buffers) → Fed → Act
-  completing : Model.Completion → (header : List ℕ) → Completed → Act
-  closing : Closed → Act
+  feeds : (piece : List ℕ) → (entry exit : Buffers) → Fed → Act
+  completes : Acts.Completion → (header : List ℕ) → Completed → Act
+  closes : Closed → Act
 
 abbrev pub callOf : Act → Call
-callOf (feeding piece entry exit r) = feed piece entry
-callOf (completing c header r) = complete c
-callOf (closing r) = close
+callOf (feeds piece entry exit r) = feed piece entry
+callOf (completes c header r) = complete c
+callOf (closes r) = close
 
-abbrev pub answerOf : Act → Answer
-answerOf (feeding piece entry exit r) = record { event = eventOf (r .answer .event) (r .answer .setup) (r .answer .dropped); used = r .answer .consumed }
-answerOf (completing c header r) = record { event = completionOf (r .answer); used = 0 }
-answerOf (closing r) = record { event = closingOf (r .answer) (r .dropped); used = 0 }
+abbrev pub entryBy : Act → Entry
+entryBy (feeds piece entry exit r) = let a = r .answer in fed piece (eventOf (a .event) (a .setup) (r .dropped)) (a .consumed)
+entryBy (completes c header r) = completed (c .ticket) (completionOf (r .answer))
+entryBy (closes r) = closing (closingOf (r .answer) (r .dropped))
 
-abbrev pub nextOf : Act → Session
-nextOf (feeding piece entry exit r) = r .session
-nextOf (completing c header r) = r .session
-nextOf (closing r) = r .session
+abbrev pub nextBy : Act → Session
+nextBy (feeds piece entry exit r) = r .session
+nextBy (completes c header r) = r .session
+nextBy (closes r) = r .session
 
 -- It meets the contract of its act.
 abbrev pub Meets : Session → Act → Type 0
-Meets s (feeding piece entry exit r) = Feeds s piece entry exit r
-Meets s (completing c header r) = Completes s c header r
-Meets s (closing r) = Closes s r
+Meets s (feeds piece entry exit r) = Feeds s piece entry exit r
+Meets s (completes c header r) = Completes s c header r
+Meets s (closes r) = Closes s r
 
 -- "Each call gets the session as the last one left it".
 abbrev pub Run : Session → List Act → Type 0
 Run s [] = Unit {0}
-Run s (a ∷ more) = Meets s a × Run (nextOf a) more
+Run s (a ∷ more) = Meets s a × Run (nextBy a) more
 
 abbrev pub lastOf : Session → List Act → Session
 lastOf s [] = s
-lastOf s (a ∷ more) = lastOf (nextOf a) more
+lastOf s (a ∷ more) = lastOf (nextBy a) more
 
 abbrev pub kept : Book → List Act → Book
 kept b [] = b
-kept b (a ∷ more) = kept (keep b (callOf a) (answerOf a)) more
+kept b (a ∷ more) = kept (keep b (entryBy a)) more
 
 abbrev pub isReady : Opening → Bool
 isReady Ready = true
@@ -68,26 +69,31 @@ isReady (Refused n) = false
 
 -- The tickets that stand beside an answer, by the book before it: those of all that is pending beside a break and the end of a
 -- session, else none.
-abbrev pub listed : Book → Event → Tickets
-listed b (break n ts) = ticketsOf (tickets (pendingOf (b .items)))
-listed b (end ts) = ticketsOf (tickets (pendingOf (b .items)))
-listed b hungry = ticketsOf []
-listed b list = ticketsOf []
-listed b (import st) = ticketsOf []
-listed b (submit u) = ticketsOf []
-listed b (answer q st) = ticketsOf []
-listed b (unlink q st t) = ticketsOf []
-listed b (refusal n) = ticketsOf []
-listed b (return n) = ticketsOf []
+abbrev pub pendingTickets : Book → Tickets
+pendingTickets b = ticketsOf (tickets (pendingOf (b .items)))
+
+abbrev pub besideFeed : Book → Outcome Event → Tickets
+besideFeed b (done (break f ts)) = pendingTickets b
+besideFeed b (done hungry) = ticketsOf []
+besideFeed b (done list) = ticketsOf []
+besideFeed b (done (import st)) = ticketsOf []
+besideFeed b (done (submit u)) = ticketsOf []
+besideFeed b (done (answer q st)) = ticketsOf []
+besideFeed b (done (unlink q st t)) = ticketsOf []
+besideFeed b (refused n) = ticketsOf []
+
+abbrev pub besideClose : Book → Outcome (List ℕ) → Tickets
+besideClose b (done ts) = pendingTickets b
+besideClose b (refused n) = ticketsOf []
 
 abbrev pub Beside : Book → Act → Type 0
-Beside b (feeding piece entry exit r) = r .answer .dropped ≡ listed b (answerOf (feeding piece entry exit r) .event)
-Beside b (completing c header r) = Unit {0}
-Beside b (closing r) = r .dropped ≡ listed b (answerOf (closing r) .event)
+Beside b (feeds piece entry exit r) = let a = r .answer in r .dropped ≡ besideFeed b (eventOf (a .event) (a .setup) (r .dropped))
+Beside b (completes c header r) = Unit {0}
+Beside b (closes r) = r .dropped ≡ besideClose b (closingOf (r .answer) (r .dropped))
 
 abbrev pub Lists : Book → List Act → Type 0
 Lists b [] = Unit {0}
-Lists b (a ∷ more) = Beside b a × Lists (keep b (callOf a) (answerOf a)) more
+Lists b (a ∷ more) = Beside b a × Lists (keep b (entryBy a)) more
 
 -- The claim of demand 3 holds of the code's calls; the code's last session is that of the definitions, and the book kept from the
 -- code's own answers is the book of the claim; the tickets beside each answer are that book's; what the view hides is blank.
@@ -110,10 +116,16 @@ SameStruct = (t u : Table) (o p : Opened) (acts others : List Act)
 
 -- "nothing changes": the very session is handed back, the lent buffers are as they were, and nothing was consumed.
 abbrev pub Unchanged : Session → Act → Type 0
-Unchanged s (feeding piece entry exit r) = (r .session ≡ s) × (exit ≡ entry) × (r .answer .consumed ≡ 0)
-Unchanged s (completing c header r) = (r .session ≡ s) × (header ≡ c .header)
-Unchanged s (closing r) = r .session ≡ s
+Unchanged s (feeds piece entry exit r) = (r .session ≡ s) × (exit ≡ entry) × (r .answer .consumed ≡ 0)
+Unchanged s (completes c header r) = (r .session ≡ s) × (header ≡ c .header)
+Unchanged s (closes r) = r .session ≡ s
+
+-- An act was refused with a number.
+abbrev pub RefusedWith : Act → ℕ → Type 0
+RefusedWith (feeds piece entry exit r) n = let a = r .answer in eventOf (a .event) (a .setup) (r .dropped) ≡ refused n
+RefusedWith (completes c header r) n = completionOf (r .answer) ≡ refused n
+RefusedWith (closes r) n = closingOf (r .answer) (r .dropped) ≡ refused n
 
 -- Of any session, also one that no run leaves.
 abbrev pub CodeRefuses : Type 0
-CodeRefuses = (s : Session) (a : Act) (n : ℕ) → Meets s a → answerOf a .event ≡ refusal n → Unchanged s a
+CodeRefuses = (s : Session) (a : Act) (n : ℕ) → Meets s a → RefusedWith a n → Unchanged s a

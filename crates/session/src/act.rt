@@ -1,43 +1,43 @@
-// The acts of a session: open, feed, complete, close; and its numbers. Each act takes the session and hands back the next: what it
-// will do is planned first, and then carried out.
+// The acts of a session: open, feed, complete, close; and its numbers. Each act takes the session and hands back the next: what
+// must be looked up is asked and looked up once, what will be done is planned from values, and then it is carried out.
 use crate::answer::Closed;
 use crate::answer::Completed;
 use crate::answer::Fed;
 use crate::answer::Opened;
-use crate::carry::changed_list;
 use crate::carry::copy_data;
-use crate::carry::dropped_tickets;
 use crate::carry::write_header;
 use crate::carry::write_reply;
+use crate::carry::write_request_reply;
 use crate::state::Session;
 use events::answer::Answer;
-use events::answer::Numbers;
+use events::answer::Event;
 use events::answer::Opening;
-use events::plan::Plan;
 use exports::device::Table;
-use feeding::feed::plan_message;
-use feeding::feed::plan_request;
+use feeding::ask::ask;
+use feeding::message::plan_piece;
+use feeding::request::plan_request;
+use limits::BAD_TABLE;
+use limits::CLOSED;
+use limits::WAITING;
+use links::link::fresh_link;
+use pending::counts::Numbers;
 use pending::list::Pending;
-use settling::completion::judge_completion;
-use settling::ends::fresh_link;
-use settling::ends::plan_close;
+use pending::look::Key;
+use settling::close::plan_close;
+use settling::completion::Given;
+use settling::completion::plan_completion;
 use tables::is_good;
-use verdicts::limits::BAD_TABLE;
-use verdicts::limits::CLOSED;
-use verdicts::limits::WAITING;
 use wire::codes::SETUP_LEN;
 ghost use mathlib.Core.Path.{_≡_};
-ghost use Rattle.model.specs.Model.{numbersOf};
+ghost use Rattle.limits.specs.Limits;
+ghost use Rattle.model.specs.State.{numbersOf};
 ghost use Rattle.model.specs.Cut.{lent};
-ghost use Rattle.events.specs.Answers.{numbersAs};
-ghost use Rattle.feeding.specs.Feeding.{Plans};
-ghost use Rattle.settling.specs.Completing.{handed};
-ghost use Rattle.session.specs.Views.{viewOf, fresh};
+ghost use Rattle.session.specs.Views.{viewOf, freshSession, handed};
 ghost use Rattle.session.specs.Acts.{Opens, Feeds, Completes, Closes};
 
 // A session that nothing was said to yet.
 fn fresh_session(table: Table, phase: u8) -> Session
-    ensures { λ r. ⌜ r ≡ fresh table phase ⌝ }
+    ensures { λ r. ⌜ r ≡ freshSession table phase ⌝ }
 {
     let link = fresh_link(phase);
     let pending = Pending::empty();
@@ -48,17 +48,16 @@ fn fresh_session(table: Table, phase: u8) -> Session
     }
 }
 
-// The plan for a piece, with buffers of these lengths. (The table, most of the session, is handed on only to a session that
-// waits.)
-fn plan_feed(s: Session, piece: &[u8], work: usize, reply: usize) -> Plan
-    ensures { λ r. ⌜ Plans r (s .table) (s .link) (s .pending) (now (piece .entry)) work reply ⌝ }
+// A feed's answer.
+fn answer_with(event: Event, consumed: usize, length: usize, setup: [u8; SETUP_LEN]) -> Answer
+    ensures { λ r. ⌜ r ≡ record { event = event; consumed = consumed; length = length; setup = setup } ⌝ }
 {
-    let link = s.link;
-    let list = s.pending;
-    if link.phase == WAITING {
-        return plan_request(s.table, link, list.count, piece, work, reply);
+    Answer {
+        event: event,
+        consumed: consumed,
+        length: length,
+        setup: setup,
     }
-    plan_message(link, list, piece, work, reply)
 }
 
 impl Session {
@@ -79,68 +78,103 @@ impl Session {
         }
     }
 
-    // A piece of the stream, up to the end of the first whole message or all of it. A submit's data goes to the work buffer,
-    // a reply to the front of the reply buffer.
-    pub fn feed(self, piece: &[u8], work: &mut [u8], reply: &mut [u8]) -> Fed
+    // A feed of a session that waits: a request. (Only this hands on the table, most of the session.)
+    fn feed_request(self, piece: &[u8], work: &mut [u8], reply: &mut [u8]) -> Fed
+        requires { ⌜ self .link .phase ≡ Limits.WAITING ⌝ }
         ensures { λ r. ⌜ Feeds self (now (piece .entry)) (lent (now (work .entry)) (now (reply .entry))) (lent (now (work .exit)) (now (reply .exit))) r ⌝ }
     {
+        let link = self.link;
         let list = self.pending;
-        let plan = plan_feed(self, piece, work.len(), reply.len());
+        let asked = plan_request(self.table, link, list.count, piece, work.len(), reply.len());
+        let plan = asked.plan;
+        let said = asked.reply;
         let next = plan.link;
         let change = plan.change;
         let event = plan.event;
         let setup = plan.setup;
-        let said = plan.reply;
-        let pending = changed_list(list, change, setup);
-        let dropped = dropped_tickets(list, change);
+        let pending = list.changed(change);
+        let dropped = list.tickets(change.dropped);
         copy_data(piece, plan.from, plan.to, plan.body, work);
-        let n = write_reply(self.table, said, reply);
-        let answer = Answer {
-            event: event,
-            consumed: plan.consumed,
-            length: n,
-            setup: setup,
-            dropped: dropped,
-        };
+        let n = write_request_reply(self.table, said, reply);
         Fed {
             session: Session {
                 link: next,
                 pending: pending,
                 ..self
             },
-            answer: answer,
+            answer: answer_with(event, plan.consumed, n, setup),
+            dropped: dropped,
         }
     }
 
-    // The device side is done with a ticket: the header of its reply, and how long the reply is on the wire. (frame is the
+    // A piece of the stream, up to the end of the first whole message or all of it. A submit's data goes to the work buffer,
+    // a reply to the front of the reply buffer.
+    pub fn feed(self, piece: &[u8], work: &mut [u8], reply: &mut [u8]) -> Fed
+        ensures { λ r. ⌜ Feeds self (now (piece .entry)) (lent (now (work .entry)) (now (reply .entry))) (lent (now (work .exit)) (now (reply .exit))) r ⌝ }
+    {
+        let link = self.link;
+        if link.phase == WAITING {
+            return self.feed_request(piece, work, reply);
+        }
+        let list = self.pending;
+        let asked = ask(link, piece);
+        let key = asked.key;
+        let look = list.look(key);
+        let plan = plan_piece(
+            link,
+            list.count,
+            asked,
+            look,
+            piece.len(),
+            work.len(),
+            reply.len(),
+        );
+        let next = plan.link;
+        let change = plan.change;
+        let event = plan.event;
+        let setup = plan.setup;
+        let said = plan.reply;
+        let pending = list.changed(change);
+        let dropped = list.tickets(change.dropped);
+        copy_data(piece, plan.from, plan.to, plan.body, work);
+        let n = write_reply(said, reply);
+        Fed {
+            session: Session {
+                link: next,
+                pending: pending,
+                ..self
+            },
+            answer: answer_with(event, plan.consumed, n, setup),
+            dropped: dropped,
+        }
+    }
+
+    // The device side is done with a ticket: the header of its reply, and how long the reply is on the wire. (payload is the
     // device's data.)
     pub fn complete(
         self,
         ticket: u64,
         status: u32,
         actual: u32,
-        frame: &[u8],
+        payload: &[u8],
         header: &mut [u8],
     ) -> Completed
-        ensures { λ r. ⌜ Completes self (handed ticket status actual (now (frame .entry)) (now (header .entry))) (now (header .exit)) r ⌝ }
+        ensures { λ r. ⌜ Completes self (handed ticket status actual (now (payload .entry)) (now (header .entry))) (now (header .exit)) r ⌝ }
     {
         let list = self.pending;
         let link = self.link;
-        let done = judge_completion(
-            link,
-            list,
-            ticket,
-            status,
-            actual,
-            frame.len(),
-            header.len(),
-        );
-        let next = done.link;
-        let change = done.change;
-        let answer = done.answer;
-        let ret = done.ret;
-        let pending = changed_list(list, change, [0u8; SETUP_LEN]);
-        write_header(done.good, ret, header);
+        let look = list.look(Key::Ticket(ticket));
+        let given = Given {
+            status: status,
+            actual: actual,
+        };
+        let plan = plan_completion(link, list.count, look, given, payload.len(), header.len());
+        let next = plan.link;
+        let change = plan.change;
+        let answer = plan.answer;
+        let ret = plan.ret;
+        let pending = list.changed(change);
+        write_header(plan.good, ret, header);
         Completed {
             session: Session {
                 link: next,
@@ -157,12 +191,12 @@ impl Session {
     {
         let link = self.link;
         let list = self.pending;
-        let end = plan_close(link, list.count);
-        let next = end.link;
-        let change = end.change;
-        let answer = end.answer;
-        let pending = changed_list(list, change, [0u8; SETUP_LEN]);
-        let dropped = dropped_tickets(list, change);
+        let plan = plan_close(link, list.count);
+        let next = plan.link;
+        let change = plan.change;
+        let answer = plan.answer;
+        let pending = list.changed(change);
+        let dropped = list.tickets(change.dropped);
         Closed {
             session: Session {
                 link: next,
@@ -176,7 +210,7 @@ impl Session {
 
     // How many URBs were accepted, are pending, were returned, unlinked and dropped.
     pub fn numbers(self) -> Numbers
-        ensures { λ r. ⌜ numbersAs r ≡ numbersOf (viewOf self) ⌝ }
+        ensures { λ r. ⌜ r ≡ numbersOf (viewOf self) ⌝ }
     {
         let counts = self.link.counts;
         let list = self.pending;

@@ -1,4 +1,5 @@
-// What the acts hand back: the next session, and an answer of `events`.
+// What the acts hand back: the next session, and an answer of `events`. The tickets of what was dropped stand beside it, lowest
+// first.
 use crate::state::Session;
 use events::answer::Answer;
 use events::answer::Closing;
@@ -14,6 +15,7 @@ pub struct Opened {
 pub struct Fed {
     pub session: Session,
     pub answer: Answer,
+    pub dropped: Tickets,
 }
 
 pub struct Completed {
@@ -21,7 +23,6 @@ pub struct Completed {
     pub answer: Completion,
 }
 
-// The tickets of what was pending, lowest first.
 pub struct Closed {
     pub session: Session,
     pub answer: Closing,

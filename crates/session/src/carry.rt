@@ -1,71 +1,25 @@
-// A plan is carried out: on the pending list, and on the lent buffers.
-use events::event::device_at;
-use events::plan::Change;
+// A plan is carried out on the lent buffers.
 use events::plan::Reply;
+use events::plan::RequestReply;
 use exports::device::Table;
+use ground::writing::write;
 use importing::import_reply;
 use importing::refuse_import;
 use listing::list_reply;
+use lookup::device_at;
 use messages::reply::RetSubmit;
 use messages::reply::write_ret_submit;
 use messages::reply::write_ret_unlink;
-use pending::list::MAX_PENDING;
-use pending::list::Pending;
-use pending::list::Tickets;
-use pending::urb::Urb;
-use wire::codes::SETUP_LEN;
-use wire::writing::write;
 ghost use Prim.Native.Nat.{_+_, _-_, _≤_};
 ghost use mathlib.Core.Path.{_≡_};
 ghost use mathlib.Core.Bool.{true, cond};
-ghost use mathlib.Core.List.{[]};
 ghost use lib.ListN.{length, take, drop};
 ghost use lib.Seq.{sets};
 ghost use Rattle.wire.specs.Codes;
-ghost use Rattle.wire.specs.Writing.{over, Wrote};
+ghost use Rattle.ground.specs.Writing.{over, Wrote};
 ghost use Rattle.messages.specs.Messages.{retSubmit};
-ghost use Rattle.verdicts.specs.Limits;
-ghost use Rattle.events.specs.Answers.{ticketsOf};
-ghost use Rattle.events.specs.Plans.{changed, droppedBy, replyBytes, Placed};
-
-fn no_tickets() -> Tickets
-    ensures { λ r. ⌜ r ≡ ticketsOf [] ⌝ }
-{
-    Tickets {
-        tickets: [0u64; MAX_PENDING],
-        count: 0,
-    }
-}
-
-// The list after a change; the setup bytes are those of a URB that is added.
-pub(crate) fn changed_list(list: Pending, change: Change, setup: [u8; SETUP_LEN]) -> Pending
-    ensures { λ r. ⌜ r ≡ changed list change setup ⌝ }
-{
-    match change {
-        Change::Keep => list,
-        Change::Append(u) => {
-            let urb = Urb {
-                transfer: u,
-                setup: setup,
-            };
-            list.append(urb)
-        }
-        Change::Remove(i) => list.remove(i),
-        Change::Clear => Pending::empty(),
-    }
-}
-
-// The tickets that a change drops.
-pub(crate) fn dropped_tickets(list: Pending, change: Change) -> Tickets
-    ensures { λ r. ⌜ r ≡ droppedBy list change ⌝ }
-{
-    match change {
-        Change::Keep => no_tickets(),
-        Change::Append(_) => no_tickets(),
-        Change::Remove(_) => no_tickets(),
-        Change::Clear => list.tickets(),
-    }
-}
+ghost use Rattle.limits.specs.Limits;
+ghost use Rattle.events.specs.Plans.{replyBytes, requestBytes};
 
 // Bytes of the piece go to a place of the work buffer.
 pub(crate) fn copy_data(piece: &[u8], from: usize, to: usize, at: usize, work: &mut [u8])
@@ -77,22 +31,31 @@ pub(crate) fn copy_data(piece: &[u8], from: usize, to: usize, at: usize, work: &
     }
 }
 
-// Writes a reply at the front of the buffer, and answers how long it is.
-pub(crate) fn write_reply(table: Table, reply: Reply, out: &mut [u8]) -> usize
-    requires { ⌜ Placed table reply ⌝ }
-    ensures { λ n. ⌜ Wrote (replyBytes table reply) (now (out .entry)) (now (out .exit)) n ⌝ }
-    ensures { λ _. ⌜ length (replyBytes table reply) ≤ Limits.REPLY-LEN ⌝ }
+// Writes the reply to a message at the front of the buffer, and answers how long it is.
+pub(crate) fn write_reply(reply: Reply, out: &mut [u8]) -> usize
+    ensures { λ n. ⌜ Wrote (replyBytes reply) (now (out .entry)) (now (out .exit)) n ⌝ }
+    ensures { λ _. ⌜ length (replyBytes reply) ≤ Limits.REPLY-LEN ⌝ }
 {
     match reply {
         Reply::Silent => 0,
-        Reply::Devices => list_reply(table, out),
-        Reply::Device(i) => {
+        Reply::Submit(ret) => write_ret_submit(out, ret),
+        Reply::Unlink(ret) => write_ret_unlink(out, ret),
+    }
+}
+
+// The same for the reply to a request.
+pub(crate) fn write_request_reply(table: Table, reply: RequestReply, out: &mut [u8]) -> usize
+    ensures { λ n. ⌜ Wrote (requestBytes table reply) (now (out .entry)) (now (out .exit)) n ⌝ }
+    ensures { λ _. ⌜ length (requestBytes table reply) ≤ Limits.REPLY-LEN ⌝ }
+{
+    match reply {
+        RequestReply::Silent => 0,
+        RequestReply::List => list_reply(table, out),
+        RequestReply::Import(i) => {
             let d = device_at(table, i);
             import_reply(d, out)
         }
-        Reply::NoDevice => refuse_import(out),
-        Reply::Returned(ret) => write_ret_submit(out, ret),
-        Reply::Cancelled(ret) => write_ret_unlink(out, ret),
+        RequestReply::Unknown => refuse_import(out),
     }
 }
 

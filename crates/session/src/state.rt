@@ -1,6 +1,6 @@
 // The session: the export table, the link to the client, and the pending URBs.
 use exports::device::Table;
-use links::Link;
+use links::link::Link;
 use pending::list::Pending;
 
 #[repr(C)]

@@ -1,143 +1,218 @@
 -- A completion and a close of the code are those of the definitions.
-use Prim.Native.Nat.{ℕ, _+_, _≤_}
+use Prim.Native.Nat.{ℕ, _+_, _≤_, _<_}
 use native.Mathlib.Omega.{arith}
-use native.Mathlib.Nat.{add-zero}
-use mathlib.Core.Path.{_≡_, sym, ap, subst, _∙_}
-use mathlib.Core.Bool.{Bool, true, false, true≢false}
-use mathlib.Core.List.{List, []}
-use mathlib.Core.Option.{none, some}
+use mathlib.Core.Path.{_≡_, refl, sym, ap, _∙_}
+use mathlib.Core.Bool.{Bool, true, false, cond, true≢false}
+use mathlib.Core.List.{List}
+use mathlib.Core.Option.{Option, none, some}
 use lib.Dec.{eqb}
-use borrow.Author.Tests.{eq-eqb}
-use lib.ListN.{length, replicate, List·getD-eq-default}
-use Rattle.wire.specs.Codes
-use Rattle.wire.specs.Writing.{over}
-use Rattle.messages.specs.Messages.{retSubmit}
-use Rattle.transmit.specs.Part.{wireLength}
-use Rattle.pending.specs.Pending.{MAX-PENDING, blank, ticketOf, tickets, findBy, found, listOf, placeBy, urbAt, emptyPending, removed}
-use Rattle.pending.specs.declared.list.Pending.{Pending}
-use Rattle.pending.specs.declared.list.Place.the-variants.{At, Nothing}
-use Rattle.pending.specs.declared.urb.Urb.{Urb}
-use Rattle.pending.specs.declared.urb.Transfer.{Transfer}
-use Rattle.pending.proofs.Finding.{place-at, place-find, place-none}
-use Rattle.pending.proofs.Laws.{view-length, remove-view, remove-count, empty-whole, empty-sound}
-use Rattle.pending.proofs.Without.{remove-first}
-use Rattle.verdicts.specs.Limits
-use Rattle.verdicts.specs.Tests.{first, decide, pick}
-use Rattle.verdicts.specs.Verdicts
-use Rattle.model.specs.Model
-use Rattle.model.specs.Model.{Sess, Event, completeTests, theUrb, completeOf, closeOf}
+use lib.ListN.{length}
+use Rattle.ground.specs.Writing.{over}
 use Rattle.exports.specs.declared.device.Table.{Table}
-use Rattle.links.specs.Links.{Parts, phaseOf, bareOf, viewOf, whole, resting, Live, Padded, Tidy}
-use Rattle.events.specs.Answers.{closingOf, droppedBeside}
-use Rattle.events.specs.Plans.{changed, droppedBy}
-use Rattle.events.specs.declared.answer.Closing.the-variants.{Refused}
-use Rattle.events.specs.declared.plan.Change.the-variants.{Keep, Remove}
-use Rattle.events.proofs.Saying.{changed-clean}
-use Rattle.settling.specs.Completing.{asked, handed}
-use Rattle.settling.specs.Ends.{Ends}
-use Rattle.settling.specs.declared.ends.Ending.{Ending}
-use Rattle.links.specs.declared.Counts.{Counts}
-use Rattle.links.specs.declared.Link.{Link}
-use Rattle.links.proofs.Fits.{counts-known, even-counts}
-use Rattle.links.proofs.Views.{view-fit, view-shut, live}
+use Rattle.transmit.specs.Part.{wireLength}
+use Rattle.pending.specs.Changes.{changed, removes, clears}
+use Rattle.pending.specs.Looks.{lookBy}
+use Rattle.pending.specs.Pending.{ticketOf, tickets, findBy, At, placeBy, listOf, Whole}
+use Rattle.pending.specs.declared.list.Pending.{Pending}
+use Rattle.pending.specs.declared.look.Look.{Look}
+use Rattle.pending.specs.declared.urb.Urb.{Urb}
+use Rattle.pending.proofs.Finding.{look-found, look-none, look-some, look-place}
+use Rattle.pending.proofs.Laws.{view-length, keep-is, remove-view, remove-count}
+use Rattle.limits.specs.Limits
+use Rattle.ground.specs.Tests.{Test, first, decide, pick}
+use Rattle.verdicts.specs.Verdicts
+use Rattle.verdicts.proofs.Good.{completion-clear}
+use Rattle.model.specs.State
+use Rattle.model.specs.State.{Sess, returned}
+use Rattle.model.specs.Acts
+use Rattle.model.specs.Answers.{refused, done}
+use Rattle.model.specs.Acts.{theTransfer, refusedCompletion, completeOf, closeOf}
+use Rattle.links.specs.Links.{Parts, phaseOf, messageOf, bareOf, viewOfParts, whole, linkWithCounts, plus, endedLink, Live, TidyParts}
+use Rattle.links.specs.declared.link.Link.{Link}
+use Rattle.links.proofs.Fits.{counts-known, even-counts, plus-fits}
+use Rattle.links.proofs.Views.{view-fit, live, live-view}
 use Rattle.links.proofs.Tidy.{none-padded}
+use Rattle.events.specs.Answers.{ticketsOf, droppedByClose}
+use Rattle.events.proofs.Saying.{remove-clean, clear-clean, drops-all, all-dropped, all-listed}
+use Rattle.settling.specs.Settling.{judgedBy, returnedLink, refusalPlan, returnPlan, completionPlan, CompletionDone, CompletionComposed, refusedClose}
+use Rattle.settling.specs.Settling.{droppingClose, closePlan, CloseDone, CloseComposed}
+use Rattle.settling.specs.declared.completion.Given.{Given}
 
--- ## Completing
+-- ## A completion
 
--- what is found under a ticket
-module _ (list : Pending) (t : ℕ) where
-  pub found-at : (i : ℕ) (u : Urb) → placeBy ticketOf t (listOf list) ≡ At i → u ≡ urbAt list i
-      → (true ≡ found (findBy ticketOf t (listOf list))) × (u .transfer ≡ theUrb (findBy ticketOf t (listOf list)) .transfer) × (true ≡ true → placeBy ticketOf t (listOf list) ≡ At i)
-  found-at i u p e = let f = place-at ticketOf t list i p in (rw f, rw (f, e), λ _. p)
+look-transfer : (ticket : ℕ) (us : List Urb) → lookBy ticketOf ticket us .transfer ≡ theTransfer (findBy ticketOf ticket us)
+look-transfer ticket us = at (findBy ticketOf ticket us) refl
+  where
+    at : (o : Option Urb) → findBy ticketOf ticket us ≡ o → lookBy ticketOf ticket us .transfer ≡ theTransfer o
+    at none e = rw (look-none ticketOf ticket us e)
+    at (some u) e = look-some ticketOf ticket us u e .2
 
-  pub found-none : (u : Urb) → length (listOf list) ≤ MAX-PENDING → placeBy ticketOf t (listOf list) ≡ Nothing → u ≡ urbAt list MAX-PENDING
-      → (false ≡ found (findBy ticketOf t (listOf list))) × (u .transfer ≡ theUrb (findBy ticketOf t (listOf list)) .transfer) × (false ≡ true → placeBy ticketOf t (listOf list) ≡ At MAX-PENDING)
-  found-none u l p e =
-      let b : u ≡ blank = e ∙ List·getD-eq-default (listOf list) blank {n = MAX-PENDING} l in
-      let f = place-none ticketOf t (listOf list) .0 p in
-      (rw f, rw (f, b), λ h. absurd (true≢false (sym h)))
-
--- one less is pending, and one more returned
-pub returns-one : (s : Parts) (i t : ℕ) (k : Link) → Live s → length (s .pending .urbs) ≡ MAX-PENDING → placeBy ticketOf t (listOf (s .pending)) ≡ At i
-    → let c = s .link .counts in
-    k ≡ record { phase = s .link .phase; devid = s .link .devid; progress = s .link .progress; counts = record { accepted = c .accepted; returned = c .returned + 1; unlinked = c .unlinked; dropped = c .dropped } }
-    → viewOf (whole (s .table) k (removed (s .pending) i)) ≡ Model.act (bareOf s) (Model.settle t Model.returned)
-returns-one s i t k l w e q =
-    let c = s .link .counts in
-    let d : Counts = record { accepted = c .accepted; returned = c .returned + 1; unlinked = c .unlinked; dropped = c .dropped } in
-    let next : Link = record { phase = s .link .phase; devid = s .link .devid; progress = s .link .progress; counts = d } in
-    let list = removed (s .pending) i in
-    let n = remove-count (s .pending) i (place-find ticketOf t (listOf (s .pending)) i e .1) in
-    let f = counts-known c (s .pending .count) (l .0) in
-    let v = view-length (s .pending) w (f .0) in
-    ap (λ (z : Link). viewOf (whole (s .table) z list)) q
-    ∙ view-fit (whole (s .table) next list) (even-counts d (list .count) (omega (arith, f .0)) (omega (arith, f .1))) (l .1)
-    ∙ rw (remove-view (s .pending) i ∙ remove-first t (listOf (s .pending)) i e, add-zero (c .unlinked), add-zero (c .dropped))
-
--- and what is left is tidy
-pub returns-tidy : (s : Parts) (i t : ℕ) (k : Link) → Live s → length (s .pending .urbs) ≡ MAX-PENDING → placeBy ticketOf t (listOf (s .pending)) ≡ At i
-    → let c = s .link .counts in
-    k ≡ record { phase = s .link .phase; devid = s .link .devid; progress = s .link .progress; counts = record { accepted = c .accepted; returned = c .returned + 1; unlinked = c .unlinked; dropped = c .dropped } }
-    → Tidy s → Tidy (whole (s .table) k (removed (s .pending) i))
-returns-tidy s i t k l w e q h =
+-- as the definitions have it
+abbrev acceptedCompletion : Sess → Acts.Completion → Acts.Complete
+acceptedCompletion s c =
+    let u = theTransfer (Acts.named s c) in
     record {
-      list = changed-clean (s .pending) (Remove i) [] (h .list);
-      head = subst Padded (ap (λ (z : Link). z .progress) (sym q)) (h .head);
-      phase = ap (λ (z : Link). z .phase) q ∙ sym (ap (λ (x : Sess). x .phase) (returns-one s i t k l w e q));
+      answer = done (wireLength (u .direction) (c .actual));
+      header = over (Acts.replyFor u (c .status) (c .actual)) (c .header);
+      next = Acts.settles ticketOf (c .ticket) returned s;
     }
 
-module _ (s : Sess) (ticket status actual : ℕ) (frame header : List ℕ) where
-  abbrev given : Model.Completion
-  given = handed ticket status actual frame header
-
-  pub complete-refused : (n : ℕ) → first (completeTests s given) ≡ some n → completeOf s given ≡ record { event = Event.refusal n; header = header; next = s }
+module _ (s : Sess) (c : Acts.Completion) where
+  complete-refused : (n : ℕ) → first (Acts.completionTestsOf s c) ≡ some n → completeOf s c ≡ refusedCompletion s c n
   unfolding completeOf decide
   complete-refused n f = rw f
 
-  pub complete-returns : (u : Transfer) → u ≡ theUrb (findBy ticketOf ticket (s .pend)) .transfer → first (completeTests s given) ≡ none
-      → completeOf s given
-      ≡ record {
-        event = Event.return (wireLength (u .direction) actual);
-        header = over (retSubmit (record { seqnum = u .seqnum; status = status; actual = actual; frame = u .frame; packets = u .packets })) header;
-        next = Model.act s (Model.settle ticket Model.returned);
-      }
+  complete-returns : first (Acts.completionTestsOf s c) ≡ none → completeOf s c ≡ acceptedCompletion s c
   unfolding completeOf decide
-  complete-returns u e f = rw (f, e)
+  complete-returns f = rw f
 
--- what the code judges by is what the definitions judge by
-module _ (s : Parts) (phase : ℕ) (p : phase ≡ phaseOf (s .link) (s .pending .count)) where
-  pub judged-by : (held : Bool) (u : Transfer) (ticket status actual : ℕ) (frame header : List ℕ) → held ≡ found (findBy ticketOf ticket (listOf (s .pending))) → u ≡ theUrb (findBy ticketOf ticket (listOf (s .pending))) .transfer
-      → Verdicts.completeTests (asked phase held u status actual (length frame) (length header)) ≡ completeTests (viewOf s) (handed ticket status actual frame header)
-  judged-by held u ticket status actual frame header f e = rw (p, f, e)
+module _ (t : Table) (k : Link) (l : Pending) (c : Acts.Completion) (w : Whole l) where
+  abbrev s : Parts
+  s = whole t k l
 
-  pub live-phase : eqb phase Limits.CLOSED ≡ false → Live s
-  live-phase h = live s (ap (λ (n : ℕ). eqb n Limits.CLOSED) (sym p) ∙ h)
+  abbrev look : Look
+  look = lookBy ticketOf (c .ticket) (listOf l)
 
--- ## Closing
+  abbrev given : Given
+  given = record { status = c .status; actual = c .actual }
 
+  abbrev tests : List (Test ℕ)
+  tests = Verdicts.completionTests (judgedBy (phaseOf k (l .count)) look given (length (c .payload)) (length (c .header)))
+
+  -- the code judges by what the definitions judge by
+  judged : tests ≡ Acts.completionTestsOf (viewOfParts s) c
+  judged =
+      let u = look-transfer (c .ticket) (listOf l) in
+      λ i.
+      Verdicts.completionTests
+      (record {
+        closed = eqb (phaseOf k (l .count)) Limits.CLOSED;
+        header = length (c .header);
+        found = look-found ticketOf (c .ticket) (listOf l) i;
+        status = c .status;
+        actual = c .actual;
+        payload = length (c .payload);
+        length = u i .length;
+        direction = u i .direction;
+      })
+
+  refused-done : (n : ℕ) → first tests ≡ some n → CompletionDone (refusalPlan k (l .count) look given n) t k l c
+  refused-done n f =
+      record {
+        fits = λ e. absurd (true≢false (sym e));
+        done = rw (keep-is l w) (sym (complete-refused (viewOfParts s) c n (ap first (sym judged) ∙ f)));
+        same = λ n e. (refl, refl);
+        tidy = λ h. rw (keep-is l w) h;
+      }
+
+  -- one less is pending, and one more returned
+  module _ (b : k .counts .accepted ≤ Limits.LAST-TICKET) (v : Live s) (f : look .found ≡ true) where
+    abbrev left : Pending
+    left = changed l (removes (l .count) (look .place))
+
+    known : (l .count ≤ Limits.MAX-PENDING) × (k .counts .accepted ≡ l .count + k .counts .returned + k .counts .unlinked + k .counts .dropped)
+    known = counts-known (k .counts) (l .count) (v .0)
+
+    placed : (placeBy ticketOf (c .ticket) (listOf l) ≡ At (look .place)) × (look .place < l .count)
+    placed = let p = look-place ticketOf (c .ticket) (listOf l) f in (p .0, omega (arith, p .1, view-length l w (known .0)))
+
+    counted : plus (k .counts .returned) 1 ≡ k .counts .returned + 1
+    counted = plus-fits (k .counts .returned) 1 (k .counts .accepted) b (omega (arith, placed .1, known .1))
+
+    fits : viewOfParts (whole t (returnedLink k) left) ≡ bareOf (whole t (returnedLink k) left)
+    fits =
+        let n : left .count + 1 ≡ l .count = remove-count l (look .place) w (placed .1) (known .0) in
+        let counts = State.ended returned 1 (k .counts) in
+        let even = even-counts counts (left .count) (omega (arith, known .0)) (omega (arith, known .1)) in
+        rw counted (view-fit (whole t (linkWithCounts counts k) left) even (v .1))
+
+    settled : viewOfParts (whole t (returnedLink k) left) ≡ Acts.settles ticketOf (c .ticket) returned (viewOfParts s)
+    settled =
+        let bare : bareOf (whole t (returnedLink k) left) ≡ Acts.settles ticketOf (c .ticket) returned (bareOf s) =
+        rw (counted, remove-view l (look .place) w ticketOf (c .ticket) (known .0) (placed .0)) in
+        fits ∙ bare ∙ ap (Acts.settles ticketOf (c .ticket) returned) (sym (live-view s v))
+
+    returned-tidy : TidyParts s → TidyParts (whole t (returnedLink k) left)
+    returned-tidy h =
+        record { list = remove-clean l (look .place) (h .list); head = h .head; phase = sym (ap (λ (z : Sess). z .link .phase) fits) }
+
+  returned-done : k .counts .accepted ≤ Limits.LAST-TICKET → first tests ≡ none → CompletionDone (returnPlan k (l .count) look given) t k l c
+  returned-done b f =
+      let good = completion-clear (judgedBy (phaseOf k (l .count)) look given (length (c .payload)) (length (c .header))) f in
+      let v = live s (good .0) in
+      let u = look-transfer (c .ticket) (listOf l) in
+      let e = settled b v (good .2) in
+      record {
+        fits = λ _. good .1;
+        done =
+            (λ i.
+            record {
+              answer = done (wireLength (u i .direction) (c .actual));
+              header = over (Acts.replyFor (u i) (c .status) (c .actual)) (c .header);
+              next = e i;
+            })
+            ∙ sym (complete-returns (viewOfParts s) c (ap first (sym judged) ∙ f));
+        same = λ n e. let z : _≡_ {A = ℕ} 0 1 = cc in absurd (omega arith);
+        tidy = returned-tidy b v (good .2);
+      }
+
+pub completion-composed : CompletionComposed
+unfolding completionPlan decide
+completion-composed t k l c w b = at (first (tests t k l c w)) refl
+  where
+    at : (o : Option ℕ) → first (tests t k l c w) ≡ o → let seen = look t k l c w in let told = given t k l c w in
+        CompletionDone (decide o (refusalPlan k (l .count) seen told) (returnPlan k (l .count) seen told)) t k l c
+    at none f = returned-done t k l c w b f
+    at (some n) f = refused-done t k l c w n f
+
+-- ## A close
+
+-- as the definitions have it
 module _ (s : Sess) where
-  pub close-refused : Model.closed s ≡ true → closeOf s ≡ record { event = Event.refusal Limits.SESSION-CLOSED; next = s }
+  close-refused : State.closed s ≡ true → closeOf s ≡ record { answer = refused Limits.SESSION-CLOSED; next = s }
   unfolding closeOf pick
   close-refused h = rw h
 
-  pub close-ends : Model.closed s ≡ false → closeOf s ≡ record { event = Event.end (tickets (s .pend)); next = Model.between (Model.act s (Model.drop-all (tickets (s .pend)))) }
+  close-ends : State.closed s ≡ false → closeOf s ≡ record { answer = done (tickets (s .pend)); next = Acts.between (Acts.drops s) }
   unfolding closeOf pick
   close-ends h = rw h
 
--- a link that is closed, and no list
-pub shut-tidy : (t : Table) (k : Link) (devid : ℕ) (c : Counts) → k ≡ resting Limits.CLOSED devid c → Tidy (whole t k emptyPending)
-shut-tidy t k devid c e =
-    subst (λ (z : Link). Tidy (whole t z emptyPending)) (sym e)
-    (record { list = (empty-whole, empty-sound); head = none-padded; phase = sym (ap (λ (x : Sess). x .phase) (view-shut t devid c emptyPending)) })
+module _ (t : Table) (k : Link) (l : Pending) (w : Whole l) where
+  abbrev closing : Parts
+  closing = whole t k l
 
--- a refusal of what is left as it was
-pub close-keeps : (r : Ending) (t : Table) (k : Link) (l : Pending) (pending phase : ℕ) → l .count ≡ pending → phase ≡ phaseOf k pending → phase ≡ Limits.CLOSED
-    → r .link ≡ k → r .change ≡ Keep → r .answer ≡ Refused Limits.SESSION-CLOSED → Ends r t k l
-close-keeps r t k l pending phase n f h p c a =
-    let e = close-refused (viewOf (whole t k l)) (eq-eqb (phaseOf k (l .count)) Limits.CLOSED (ap (phaseOf k) n ∙ sym f ∙ h)) in
-    record {
-      ended = (λ i. record { event = closingOf (a i) (droppedBy l (c i)); next = viewOf (whole t (p i) (changed l (c i) (replicate Codes.SETUP-LEN 0))) }) ∙ sym e;
-      dropped = ap (droppedBy l) c ∙ ap (λ (x : Model.Close). droppedBeside (x .event)) (sym e);
-      same = λ _ _. (p, c);
-      tidy = subst Tidy (λ i. whole t (sym p i) (changed l (sym c i) (replicate Codes.SETUP-LEN 0)));
-    }
+  close-kept : eqb (phaseOf k (l .count)) Limits.CLOSED ≡ true → CloseDone (refusedClose k (l .count)) t k l
+  close-kept h =
+      let e = close-refused (viewOfParts closing) h in
+      record {
+        done = rw (keep-is l w) (sym e);
+        dropped = ap (λ (z : Acts.Close). ticketsOf (droppedByClose (z .answer))) (sym e);
+        same = λ n q. (refl, refl);
+        tidy = λ y. rw (keep-is l w) y;
+      }
+
+  close-dropped : k .counts .accepted ≤ Limits.LAST-TICKET → eqb (phaseOf k (l .count)) Limits.CLOSED ≡ false
+      → CloseDone (droppingClose k (l .count)) t k l
+  close-dropped b h =
+      let e = close-ends (viewOfParts closing) h in
+      let v = live closing h in
+      let bare : viewOfParts (whole t (endedLink k (l .count)) (changed l (clears (l .count)))) ≡ Acts.between (Acts.drops (bareOf closing)) =
+      drops-all t k l (messageOf (k .progress)) (v .0) w b in
+      let next = bare ∙ ap (λ (z : Sess). Acts.between (Acts.drops z)) (sym (live-view closing v)) in
+      record {
+        done = (λ i. record { answer = done (all-listed l i); next = next i }) ∙ sym e;
+        dropped = all-dropped l ∙ ap (λ (z : Acts.Close). ticketsOf (droppedByClose (z .answer))) (sym e);
+        same = λ n q. let z : _≡_ {A = ℕ} 0 1 = cc in absurd (omega arith);
+        tidy =
+            λ y.
+            record { list = clear-clean l (y .list); head = none-padded; phase = sym (ap (λ (z : Sess). z .link .phase) next) };
+      }
+
+pub close-composed : CloseComposed
+unfolding closePlan
+close-composed t k l w b = at (eqb (phaseOf k (l .count)) Limits.CLOSED) refl
+  where
+    at : (c : Bool) → eqb (phaseOf k (l .count)) Limits.CLOSED ≡ c
+        → CloseDone (cond c (refusedClose k (l .count)) (droppingClose k (l .count))) t k l
+    at true h = close-kept t k l w h
+    at false h = close-dropped t k l w b h

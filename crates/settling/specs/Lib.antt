@@ -1,3 +1,2 @@
--- What a reader of this crate must believe: what the plans of a completion and of a close come to.
-pub mod Completing
-pub mod Ends
+-- What a reader of this crate must believe: the plans of a completion and of a close, and that carried out they are the definitions.
+pub mod Settling

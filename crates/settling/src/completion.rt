@@ -1,99 +1,29 @@
 // The plan of a completion.
 use events::answer::Completion;
-use events::plan::Change;
-use links::Counts;
-use links::Link;
-use links::phase_of;
+use limits::CLOSED;
+use links::guard::phase_of;
+use links::link::Link;
+use links::link::count_plus;
+use messages::message::Transfer;
 use messages::reply::RetSubmit;
-use pending::list::MAX_PENDING;
-use pending::list::Pending;
-use pending::list::Place;
-use pending::urb::Transfer;
+use pending::change::Change;
+use pending::counts::Counts;
+use pending::look::Look;
 use transmit::wire_length;
-use verdicts::limits::CLOSED;
+use verdicts::verdict::Admission;
 use verdicts::verdict::Completing;
-use verdicts::verdict::Verdict;
-use verdicts::verdict::complete_verdict;
-ghost use Prim.Native.Nat.{_+_, _<_};
+use verdicts::verdict::completion_refusal;
 ghost use mathlib.Core.Path.{_≡_};
-ghost use mathlib.Core.Bool.{true};
-ghost use Rattle.pending.specs.Pending.{ticketOf, listOf, findBy, found, placeBy};
-ghost use Rattle.pending.specs.declared.list.Place.the-variants.{At};
-ghost use Rattle.model.specs.Model.{theUrb};
-ghost use Rattle.settling.specs.Completing.{asked, replyFor, Judges};
+ghost use Rattle.settling.specs.Settling.{judgedBy, returnFor, returnedLink, completionPlan};
 
-// A search by ticket: whether a URB is pending under it, at which place, and what it says, zeros if none is.
-struct Search {
-    found: bool,
-    place: usize,
-    transfer: Transfer,
-}
-
-fn search_ticket(list: Pending, ticket: u64) -> Search
-    ensures { λ r. ⌜ (r .found ≡ found (findBy ticketOf ticket (listOf list))) × (r .transfer ≡ theUrb (findBy ticketOf ticket (listOf list)) .transfer) × (r .found ≡ true → placeBy ticketOf ticket (listOf list) ≡ At (r .place)) ⌝ }
-{
-    let place = list.find_ticket(ticket);
-    match place {
-        Place::At(i) => {
-            let urb = list.at(i);
-            let transfer = urb.transfer;
-            Search {
-                found: true,
-                place: i,
-                transfer: transfer,
-            }
-        }
-        Place::Nothing => {
-            let urb = list.at(MAX_PENDING);
-            let transfer = urb.transfer;
-            Search {
-                found: false,
-                place: MAX_PENDING,
-                transfer: transfer,
-            }
-        }
-    }
-}
-
-// What a completion is judged by.
-fn completing(
-    phase: u8,
-    found: bool,
-    u: Transfer,
-    status: u32,
-    actual: u32,
-    frame: usize,
-    header: usize,
-) -> Completing
-    ensures { λ r. ⌜ r ≡ asked phase found u status actual frame header ⌝ }
-{
-    Completing {
-        closed: phase == CLOSED,
-        header: header,
-        found: found,
-        status: status,
-        actual: actual,
-        frame: frame,
-        length: u.length,
-        direction: u.direction,
-    }
-}
-
-// The reply to a URB.
-fn reply_for(u: Transfer, status: u32, actual: u32) -> RetSubmit
-    ensures { λ r. ⌜ r ≡ replyFor u status actual ⌝ }
-{
-    RetSubmit {
-        seqnum: u.seqnum,
-        status: status,
-        actual: actual,
-        frame: u.frame,
-        packets: u.packets,
-    }
+// What the device side says of a ticket: a status and an actual length.
+pub struct Given {
+    pub status: u32,
+    pub actual: u32,
 }
 
 // What a completion will do: the next link and the change of the list; the answer; and if it is good, the header.
-pub struct Done {
+pub struct CompletionPlan {
     pub link: Link,
     pub change: Change,
     pub answer: Completion,
@@ -101,14 +31,44 @@ pub struct Done {
     pub ret: RetSubmit,
 }
 
-// One URB more was returned.
+// What a completion is judged by; payload and header are lengths.
+fn judged_by(phase: u8, look: Look, given: Given, payload: usize, header: usize) -> Completing
+    ensures { λ r. ⌜ r ≡ judgedBy phase look given payload header ⌝ }
+{
+    let u = look.transfer;
+    Completing {
+        closed: phase == CLOSED,
+        header: header,
+        found: look.found,
+        status: given.status,
+        actual: given.actual,
+        payload: payload,
+        length: u.length,
+        direction: u.direction,
+    }
+}
+
+// The reply to a URB.
+fn reply_to(u: Transfer, given: Given) -> RetSubmit
+    ensures { λ r. ⌜ r ≡ returnFor u given ⌝ }
+{
+    RetSubmit {
+        seqnum: u.seqnum,
+        status: given.status,
+        actual: given.actual,
+        start: u.start,
+        packets: u.packets,
+    }
+}
+
+// One URB more was returned; the message in progress is as it was.
 fn returned_link(old: Link) -> Link
-    requires { ⌜ old .counts .returned < old .counts .accepted ⌝ }
-    ensures { λ r. ⌜ r ≡ record { phase = old .phase; devid = old .devid; progress = old .progress; counts = record { accepted = old .counts .accepted; returned = old .counts .returned + 1; unlinked = old .counts .unlinked; dropped = old .counts .dropped } } ⌝ }
+    ensures { λ r. ⌜ r ≡ returnedLink old ⌝ }
 {
     let c = old.counts;
+    let returned = count_plus(c.returned, 1);
     let counts = Counts {
-        returned: c.returned + 1,
+        returned: returned,
         ..c
     };
     Link {
@@ -117,38 +77,41 @@ fn returned_link(old: Link) -> Link
     }
 }
 
-// A completion is judged.
-pub fn judge_completion(
+// The plan of a completion of what was looked up under its ticket, with so many URBs pending, device's data and a header buffer of
+// these lengths.
+pub fn plan_completion(
     link: Link,
-    list: Pending,
-    ticket: u64,
-    status: u32,
-    actual: u32,
-    frame: usize,
+    pending: usize,
+    look: Look,
+    given: Given,
+    payload: usize,
     header: usize,
-) -> Done
-    ensures { λ r. ⌜ Judges r link list ticket status actual frame header ⌝ }
+) -> CompletionPlan
+    ensures { λ r. ⌜ r ≡ completionPlan link pending look given payload header ⌝ }
 {
-    let phase = phase_of(link, list.count);
-    let search = search_ticket(list, ticket);
-    let u = search.transfer;
-    let c = completing(phase, search.found, u, status, actual, frame, header);
-    let ret = reply_for(u, status, actual);
-    let verdict = complete_verdict(c);
-    match verdict {
-        Verdict::Bad(n) => Done {
-            link: link,
-            change: Change::Keep,
-            answer: Completion::Refused(n),
-            good: false,
-            ret: ret,
-        },
-        Verdict::Good => {
+    let phase = phase_of(link, pending);
+    let u = look.transfer;
+    let c = judged_by(phase, look, given, payload, header);
+    let ret = reply_to(u, given);
+    let admission = completion_refusal(c);
+    match admission {
+        Admission::Refused(number) => {
+            let change = Change::keep(pending);
+            CompletionPlan {
+                link: link,
+                change: change,
+                answer: Completion::Refused(number),
+                good: false,
+                ret: ret,
+            }
+        }
+        Admission::Admitted => {
             let next = returned_link(link);
-            let n = wire_length(u.direction, actual);
-            Done {
+            let change = Change::remove(pending, look.place);
+            let n = wire_length(u.direction, given.actual);
+            CompletionPlan {
                 link: next,
-                change: Change::Remove(search.place),
+                change: change,
                 answer: Completion::Return(n),
                 good: true,
                 ret: ret,

@@ -1,3 +1,3 @@
-// What a completion and a close will do, decided by value before anything is written. `session` carries it out.
+// What a completion and a close will do, decided by value before anything is written. `session` looks up, and carries it out.
+pub mod close;
 pub mod completion;
-pub mod ends;

@@ -9,9 +9,11 @@ use native.Mathlib.Omega.{arith}
 use lib.ListN.{length, getD}
 use lib.Seq.{length-take-le}
 use Rattle.exports.specs.declared.device.Table.{Table}
-use Rattle.exports.specs.Devices.{MAX-DEVICES, devicesOf, noDevice}
-use Rattle.exports.specs.Rules.{every, goodDevice, apart, DeviceRules}
-use Rattle.exports.proofs.Tests.{leb-iff, and-iff, every-iff}
+use Rattle.limits.specs.Limits.{MAX-DEVICES}
+use Rattle.exports.specs.Devices.{devicesOf, noDevice}
+use Rattle.ground.specs.Lists.{every}
+use Rattle.exports.specs.Rules.{goodDevice, apart, DeviceRules}
+use Rattle.ground.proofs.Tests.{leb-iff, and-iff, every-iff}
 use Rattle.exports.proofs.Good.{device-iff, Apart, apart-iff}
 use Rattle.tables.specs.Tables.{pairwise, goodTable, deviceCount, Rules}
 

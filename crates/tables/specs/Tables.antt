@@ -1,4 +1,4 @@
--- The rules that an export table must keep (01, "Open"), as a test that computes, and the same rules with quantifiers.
+-- The rules that an export table must keep (PROTOCOL.md, 3.1), as a test that computes, and the same rules with quantifiers.
 -- proofs/Good.antt shows that the two agree.
 use Prim.Native.Nat.{ℕ, _<_, _≤_}
 use mathlib.Core.Path.{_≡_}
@@ -8,8 +8,10 @@ use lib.Dec.{leb}
 use lib.ListN.{length, getD}
 use Rattle.exports.specs.declared.device.Device.{Device}
 use Rattle.exports.specs.declared.device.Table.{Table}
-use Rattle.exports.specs.Devices.{MAX-DEVICES, noDevice, devicesOf}
-use Rattle.exports.specs.Rules.{every, goodDevice, apart, DeviceRules}
+use Rattle.limits.specs.Limits.{MAX-DEVICES}
+use Rattle.exports.specs.Devices.{noDevice, devicesOf}
+use Rattle.ground.specs.Lists.{every}
+use Rattle.exports.specs.Rules.{goodDevice, apart, DeviceRules}
 
 -- Each element and each later one, not only the next.
 abbrev pub pairwise : {A : Type 0} → (A → A → Bool) → List A → Bool

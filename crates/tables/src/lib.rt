@@ -1,14 +1,15 @@
 // The export table as a whole: whether it keeps the rules. What they are stands in specs/.
 use exports::device::Device;
-use exports::device::MAX_DEVICES;
 use exports::device::Table;
 use exports::rules::clash;
 use exports::rules::good_device;
+use limits::MAX_DEVICES;
 ghost use mathlib.Core.Path.{_≡_};
 ghost use Prim.Native.Nat.{_≤_};
 ghost use lib.ListN.{take, drop};
-ghost use Rattle.exports.specs.Devices.{MAX-DEVICES};
-ghost use Rattle.exports.specs.Rules.{goodDevice, apart, every};
+ghost use Rattle.limits.specs.Limits.{MAX-DEVICES};
+ghost use Rattle.exports.specs.Rules.{goodDevice, apart};
+ghost use Rattle.ground.specs.Lists.{every};
 ghost use Rattle.tables.specs.Tables.{distinct, goodTable};
 
 fn all_good(devices: [Device; MAX_DEVICES], n: usize) -> bool

@@ -1,16 +1,16 @@
 -- Records byte by byte: what the constants of Layout are, in numbers.
 use mathlib.Core.Path.{_≡_, refl}
 use mathlib.Core.List.{[], _∷_}
-use Rattle.tape.specs.Tape.{headOf, streamHead, completionHead, readOf, nextOf, wantedOf}
+use Rattle.tape.specs.Tape.{headOf, streamHead, completionHead, readOf, readBehind, wantedOf}
 use Rattle.tape.specs.declared.reader.Record.the-variants.{Completion, Close}
 use Rattle.tape.specs.declared.reader.Read.{Read}
 
 -- `X>`, as the 65,536th record and as one more
-pub close-read : (nextOf 65535 (0x58 ∷ 0x3e ∷ []) ≡ Read.Record Close) × (nextOf 65536 (0x58 ∷ 0x3e ∷ []) ≡ Read.Bad)
+pub close-read : (readBehind 65535 (0x58 ∷ 0x3e ∷ []) ≡ Read.Record Close) × (readBehind 65536 (0x58 ∷ 0x3e ∷ []) ≡ Read.Bad)
 unfolding headOf
 close-read = (refl, refl)
 
--- `D>`: ticket 1, status 0, 64 bytes, as in 01's sample
+-- `D>`: ticket 1, status 0, 64 bytes, as in the sample tape
 pub completion-read : readOf (0x44 ∷ 0x3e ∷ 0 ∷ 0 ∷ 0 ∷ 0 ∷ 0 ∷ 0 ∷ 0 ∷ 1 ∷ 0 ∷ 0 ∷ 0 ∷ 0 ∷ 0 ∷ 0 ∷ 0 ∷ 64 ∷ []) ≡ Read.Record (Completion 1 0 64)
 unfolding headOf completionHead
 completion-read = refl

@@ -2,7 +2,6 @@
 -- is read.
 use Prim.Native.Nat.{ℕ, _≤_, _<_}
 use mathlib.Core.Path.{_≡_, refl, sym, ap, _∙_}
-use mathlib.Core.Bool.{Bool, true, false, cond}
 use mathlib.Core.List.{List, [], _∷_, _++_, append-assoc}
 use mathlib.Core.Logic.{_↔_, _⊎_, inl, inr, ⊎-elim}
 use native.Mathlib.Omega.{arith}
@@ -10,12 +9,14 @@ use borrow.Author.Tests.{lt-ltb, le-ltb, lt-leb, ne-eqb, ltb-true, ltb-false, le
 use lib.Dec.{eqb, ltb, leb}
 use lib.ListN.{length, take, drop, getD, length-append, length-drop, take-append-drop}
 use lib.Seq.{length-take-le, take-add, drop-drop, take-at, drop-at}
+use Rattle.ground.proofs.Cases.{by-cond}
 use Rattle.wire.specs.BigEndian.{numberOf, bytesOf, Bytes}
 use Rattle.wire.specs.Fields.{Field, u16, u32, pack, unpack, field, widths, size, Fitting}
 use Rattle.wire.proofs.Numbers.{number-below, bytes-of-number}
 use Rattle.wire.proofs.Heads.{pack-length, unpack-pack, bytes-split}
 use Rattle.tape.specs.Layout
-use Rattle.tape.specs.Tape.{u64, fieldsOf, countOf, lengthOf, recordBytes, Starts, streamHead, completionHead, headOf, readIn, readOf, nextOf, streamOf}
+use Rattle.tape.specs.Tape.{u64, fieldsOf, countOf, lengthOf, recordBytes, Starts, streamHead, completionHead, headOf, readIn, readOf, readBehind}
+use Rattle.tape.specs.Tape.{streamOf}
 use Rattle.tape.specs.declared.reader.Record.{Record}
 use Rattle.tape.specs.declared.reader.Record.the-variants.{Stream, Completion, Close}
 use Rattle.tape.specs.declared.reader.Read.{Read}
@@ -32,12 +33,6 @@ front (w ∷ ws) l b h =
     let r : bytesOf w (numberOf (take w l)) ≡ take w l = rw t at (bytes-of-number (take w l) (B .0)) in
     let k = front ws (drop w l) (B .1) (simp length-drop (omega arith)) in
     (rw (r, k .0, take-add w (size ws) l), (rw t at (number-below (take w l) (B .0)), k .1))
-
--- ## A choice by a test
-
-by-test {κ} : {A : Type 0} (P : A → Type κ) (c : Bool) {x y : A} → (c ≡ true → P x) → (c ≡ false → P y) → P (cond c x y)
-by-test P true f g = f refl
-by-test P false f g = g refl
 
 -- ## Heads
 
@@ -62,35 +57,36 @@ Told bytes Head.Bad =
 
 completion-fields : (bytes : List ℕ)
     → unpack (2 ∷ 8 ∷ 4 ∷ 4 ∷ []) bytes
-    ≡ u16 (field 2 Layout.MARK-AT bytes) ∷ u64 (field 8 Layout.TICKET-AT bytes) ∷ u32 (field 4 Layout.STATUS-AT bytes) ∷ u32 (field 4 Layout.ACTUAL-AT bytes) ∷ []
+    ≡ u16 (field 2 Layout.MARK-AT bytes) ∷ u64 (field 8 Layout.TICKET-AT bytes) ∷ u32 (field 4 Layout.STATUS-AT bytes)
+    ∷ u32 (field 4 Layout.ACTUAL-AT bytes) ∷ []
 completion-fields bytes = simp drop-drop
 
 stream-told : (bytes : List ℕ) → Layout.MARK-LEN ≤ length bytes → markIn bytes ≡ Layout.STREAM-MARK → Told bytes (streamHead bytes)
 unfolding streamHead
 stream-told bytes l m =
-    by-test (Told bytes) (ltb (length bytes) Layout.STREAM-AT) (λ e. (ltb-true _ _ e, inr (inl (l, m, refl))))
+    by-cond (Told bytes) (ltb (length bytes) Layout.STREAM-AT) (λ e. (ltb-true _ _ e, inr (inl (l, m, refl))))
     λ e.
-    by-test (Told bytes) (ltb Layout.MAX-COUNT (field 2 Layout.COUNT-AT bytes)) (λ f. inl (ltb-false _ _ e, m, ltb-true _ _ f))
+    by-cond (Told bytes) (ltb Layout.MAX-COUNT (field 2 Layout.COUNT-AT bytes)) (λ f. inl (ltb-false _ _ e, m, ltb-true _ _ f))
     λ f. (rw m, ltb-false _ _ f, ltb-false _ _ e)
 
 completion-told : (bytes : List ℕ) → Layout.MARK-LEN ≤ length bytes → markIn bytes ≡ Layout.COMPLETION-MARK → Told bytes (completionHead bytes)
 unfolding completionHead
 completion-told bytes l m =
-    by-test (Told bytes) (ltb (length bytes) Layout.COMPLETION-LEN) (λ e. (ltb-true _ _ e, inr (inr (l, m, refl))))
+    by-cond (Told bytes) (ltb (length bytes) Layout.COMPLETION-LEN) (λ e. (ltb-true _ _ e, inr (inr (l, m, refl))))
     λ e. (rw (completion-fields bytes, m), omega arith, ltb-false _ _ e)
 
 pub told : (bytes : List ℕ) → Told bytes (headOf bytes)
 unfolding headOf
 told bytes =
     let mark = markIn bytes in
-    by-test (Told bytes) (ltb (length bytes) Layout.MARK-LEN) (λ e. (ltb-true _ _ e, inl refl))
+    by-cond (Told bytes) (ltb (length bytes) Layout.MARK-LEN) (λ e. (ltb-true _ _ e, inl refl))
     λ e.
     let l = ltb-false (length bytes) Layout.MARK-LEN e in
-    by-test (Told bytes) (eqb mark Layout.STREAM-MARK) (λ m. stream-told bytes l (eqb-true _ _ m))
+    by-cond (Told bytes) (eqb mark Layout.STREAM-MARK) (λ m. stream-told bytes l (eqb-true _ _ m))
     λ s.
-    by-test (Told bytes) (eqb mark Layout.COMPLETION-MARK) (λ m. completion-told bytes l (eqb-true _ _ m))
+    by-cond (Told bytes) (eqb mark Layout.COMPLETION-MARK) (λ m. completion-told bytes l (eqb-true _ _ m))
     λ d.
-    by-test (Told bytes) (eqb mark Layout.CLOSE-MARK) (λ m. (rw (eqb-true mark Layout.CLOSE-MARK m), omega arith, l))
+    by-cond (Told bytes) (eqb mark Layout.CLOSE-MARK) (λ m. (rw (eqb-true mark Layout.CLOSE-MARK m), omega arith, l))
     λ x. inr (l, eqb-false _ _ s, eqb-false _ _ d, eqb-false _ _ x)
 
 -- The value of the field at a place of a head.
@@ -131,7 +127,7 @@ clash e = absurd (let z : _≡_ {A = ℕ} 0 1 = cc in omega arith)
 -- What is read is what the head tells, and it is there whole.
 pub read-head : (n : ℕ) (h : Head) (r : Record) → readIn n h ≡ Read.Record r → (h ≡ Head.Record r) × (lengthOf r ≤ n)
 read-head n (Head.Record q) r e =
-    by-test (λ x. x ≡ Read.Record r → (Head.Record q ≡ Head.Record r) × (lengthOf r ≤ n)) (ltb n (lengthOf q)) (λ _ b. clash b)
+    by-cond (λ x. x ≡ Read.Record r → (Head.Record q ≡ Head.Record r) × (lengthOf r ≤ n)) (ltb n (lengthOf q)) (λ _ b. clash b)
     (λ l b. let s : q ≡ r = cc in (ap Head.Record s, rw s at (ltb-false n (lengthOf q) l)))
     e
 read-head n (Head.Short k) r e = clash e
@@ -166,7 +162,8 @@ fields-first bytes r s = s .whole ∙ append-assoc (pack (fieldsOf r)) (s .strea
 reads : (bytes : List ℕ) (r : Record) → Starts bytes r → readOf bytes ≡ Read.Record r
 reads bytes r s =
     let fs = fieldsOf r in
-    let l : lengthOf r ≤ length bytes = rw (s .whole, length-append (recordBytes r (s .stream)) (s .rest), record-length r (s .stream) (s .count)) (omega arith) in
+    let l : lengthOf r ≤ length bytes =
+    rw (s .whole, length-append (recordBytes r (s .stream)) (s .rest), record-length r (s .stream) (s .count)) (omega arith) in
     let u : unpack (widths fs) bytes ≡ fs = rw (fields-first bytes r s) (unpack-pack fs (s .stream ++ s .rest) (s .fits)) in
     rw (found bytes r (u, s .few, omega arith), le-ltb (length bytes) (lengthOf r) l)
 
@@ -178,9 +175,9 @@ read-iff bytes b r = (starts bytes b r, reads bytes r)
 
 -- and where fewer than the most came before
 pub next-iff : (before : ℕ) (bytes : List ℕ) → Bytes bytes → (r : Record)
-    → (nextOf before bytes ≡ Read.Record r) ↔ ((before < Layout.MAX-RECORDS) × Starts bytes r)
+    → (readBehind before bytes ≡ Read.Record r) ↔ ((before < Layout.MAX-RECORDS) × Starts bytes r)
 next-iff before bytes b r = (
-  by-test (λ x. x ≡ Read.Record r → (before < Layout.MAX-RECORDS) × Starts bytes r) (leb Layout.MAX-RECORDS before) (λ _ e. clash e)
+  by-cond (λ x. x ≡ Read.Record r → (before < Layout.MAX-RECORDS) × Starts bytes r) (leb Layout.MAX-RECORDS before) (λ _ e. clash e)
       (λ l e. (leb-false _ _ l, starts bytes b r e)),
   λ s. rw (lt-leb _ _ (s .0)) (reads bytes r (s .1)),
 )
@@ -194,4 +191,8 @@ pub stream-is : (bytes : List ℕ) (count : ℕ) (s : Starts bytes (Stream count
 stream-is bytes count s =
     let fs = fieldsOf (Stream count) in
     let l = read-whole bytes (Stream count) (reads bytes (Stream count) s) in
-    rw (le-ltb _ _ l, fields-first bytes (Stream count) s, drop-at (pack fs) (s .stream ++ s .rest) Layout.STREAM-AT (pack-length fs)) (take-at (s .stream) (s .rest) count (s .count))
+    rw (
+      le-ltb _ _ l,
+      fields-first bytes (Stream count) s,
+      drop-at (pack fs) (s .stream ++ s .rest) Layout.STREAM-AT (pack-length fs),
+    ) (take-at (s .stream) (s .rest) count (s .count))

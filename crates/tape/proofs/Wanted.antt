@@ -7,9 +7,10 @@ use native.Mathlib.Omega.{arith}
 use borrow.Author.Tests.{le-ltb}
 use lib.ListN.{length, drop, length-append, length-drop}
 use lib.Seq.{take-append-le, drop-append-le}
-use Rattle.wire.specs.Fields.{unpack, field, widths, size}
+use Rattle.wire.specs.Fields.{unpack, widths, size}
+use Rattle.wire.proofs.Heads.{field-stays}
 use Rattle.tape.specs.Layout
-use Rattle.tape.specs.Tape.{fieldsOf, countOf, lengthOf, headOf, readIn, readOf, wantedIn, wantedOf, Settled}
+use Rattle.tape.specs.Tape.{fieldsOf, countOf, lengthOf, headOf, readIn, readOf, wantedIn, wantedOf, ReadsAlike}
 use Rattle.tape.specs.declared.reader.Record.{Record}
 use Rattle.tape.specs.declared.reader.Record.the-variants.{Stream, Completion, Close}
 use Rattle.tape.specs.declared.reader.Read.{Read}
@@ -24,17 +25,18 @@ one-of-3 f g h = ⊎-elim f (⊎-elim g h)
 unpack-more : (ws bytes more : List ℕ) → size ws ≤ length bytes → unpack ws (bytes ++ more) ≡ unpack ws bytes
 unpack-more [] bytes more h = refl
 unpack-more (w ∷ ws) bytes more h =
-    rw (take-append-le w bytes more (omega arith), drop-append-le w bytes more (omega arith), unpack-more ws (drop w bytes) more (simp length-drop (omega arith)))
+    rw (
+      take-append-le w bytes more (omega arith),
+      drop-append-le w bytes more (omega arith),
+      unpack-more ws (drop w bytes) more (simp length-drop (omega arith)),
+    )
 
 module _ (bytes more : List ℕ) where
   longer : length bytes ≤ length (bytes ++ more)
   longer = simp length-append (omega arith)
 
-  field-more : (w at : ℕ) → at + w ≤ length bytes → field w at (bytes ++ more) ≡ field w at bytes
-  field-more w at h = rw (drop-append-le at bytes more (omega arith), take-append-le w (drop at bytes) more (simp length-drop (omega arith)))
-
   pub mark-more : Layout.MARK-LEN ≤ length bytes → markIn (bytes ++ more) ≡ markIn bytes
-  mark-more h = field-more 2 Layout.MARK-AT h
+  mark-more h = field-stays 2 Layout.MARK-AT bytes more h
 
   -- a head that tells a record, or that there is none, stays
   pub record-stays : (r : Record) → Told bytes (Head.Record r) → headOf (bytes ++ more) ≡ Head.Record r
@@ -45,7 +47,7 @@ module _ (bytes more : List ℕ) where
   bad-stays t =
       unfound (bytes ++ more)
       (⊎-elim
-      (λ b. inl (omega (arith, longer), mark-more (omega arith) ∙ b .1, rw (field-more 2 Layout.COUNT-AT (b .0)) (b .2)))
+      (λ b. inl (omega (arith, longer), mark-more (omega arith) ∙ b .1, rw (field-stays 2 Layout.COUNT-AT bytes more (b .0)) (b .2)))
       (λ b. let m = mark-more (b .0) in inr (omega (arith, longer), rw m (b .1), rw m (b .2), rw m (b .3)))
       t)
 
@@ -102,7 +104,7 @@ module _ (bytes more : List ℕ) where
   settled Head.Bad t w = rw (bad-stays bytes more t)
 
 -- where as many are there, what stands behind them changes nothing
-pub enough : (bytes : List ℕ) → wantedOf bytes ≤ length bytes → Settled bytes
+pub enough : (bytes : List ℕ) → wantedOf bytes ≤ length bytes → ReadsAlike bytes
 enough bytes w more = settled bytes more (headOf bytes) (told bytes) w
 
 room-for : (bytes : List ℕ) (h : Head) → Told bytes h → Layout.MAX-RECORD-LEN ≤ length bytes → wantedIn (length bytes) h ≤ length bytes

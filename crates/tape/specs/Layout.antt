@@ -1,4 +1,4 @@
--- The marks, offsets and limits of a tape (01, "The replay tape"), each named once. The constants of src/layout.rt have the same
+-- The marks, offsets and limits of a tape (PROTOCOL.md, 10.1), each named once. The constants of src/layout.rt have the same
 -- names, with `_` for `-`.
 use Prim.Native.Nat.{ℕ, _+_}
 

@@ -1,16 +1,13 @@
--- "Its table has one device: path `/deck/1-1`, busid `1-1`, busnum 1, devnum 15, all else 0" (01, "The replay tape").
+-- "Its table has one device: path `/deck/1-1`, busid `1-1`, busnum 1, devnum 15, all else 0" (PROTOCOL.md, 10.1).
 use Prim.Native.Nat.{ℕ, _-_}
-use mathlib.Core.List.{List, [], _∷_, _++_}
-use lib.ListN.{length, replicate}
+use mathlib.Core.List.{List, [], _∷_}
+use lib.ListN.{replicate}
 use Rattle.wire.specs.Codes.{BUSID-LEN}
 use Rattle.exports.specs.declared.device.Device.{Device}
 use Rattle.exports.specs.declared.device.Table.{Table}
-use Rattle.exports.specs.Devices.{MAX-DEVICES, MAX-INTERFACES, PATH-LEN}
+use Rattle.limits.specs.Limits.{MAX-DEVICES, MAX-INTERFACES, PATH-LEN}
+use Rattle.ground.specs.Lists.{padded}
 use Rattle.tape.specs.Layout.{DATA-LEN}
-
--- A text with zeros behind it, as many bytes in all.
-abbrev pub padded : ℕ → List ℕ → List ℕ
-padded width text = text ++ replicate (width - length text) 0
 
 -- `/deck/1-1` and `1-1` in ASCII.
 abbrev pub tapePath : List ℕ

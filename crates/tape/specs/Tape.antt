@@ -1,4 +1,4 @@
--- A tape's records, each read from the bytes at the front of what is left of the tape (01, "The replay tape").
+-- A tape's records, each read from the bytes at the front of what is left of the tape (PROTOCOL.md, 10.1).
 use Prim.Native.Nat.{ℕ, _+_, _≤_}
 use mathlib.Core.Path.{_≡_}
 use mathlib.Core.Bool.{cond}
@@ -79,8 +79,8 @@ abbrev pub readOf : List ℕ → Read
 readOf bytes = readIn (length bytes) (headOf bytes)
 
 -- The record at the front behind as many others: "a 65,537th record" doesn't read.
-abbrev pub nextOf : ℕ → List ℕ → Read
-nextOf before bytes = cond (leb Layout.MAX-RECORDS before) Read.Bad (readOf bytes)
+abbrev pub readBehind : ℕ → List ℕ → Read
+readBehind before bytes = cond (leb Layout.MAX-RECORDS before) Read.Bad (readOf bytes)
 
 -- The stream bytes of a `C>` record, where all are there.
 abbrev pub streamOf : ℕ → List ℕ → List ℕ
@@ -98,5 +98,5 @@ abbrev pub wantedOf : List ℕ → ℕ
 wantedOf bytes = wantedIn (length bytes) (headOf bytes)
 
 -- Whatever follows these bytes, the record at their front reads alike.
-abbrev pub Settled : List ℕ → Type 0
-Settled bytes = (more : List ℕ) → readOf (bytes ++ more) ≡ readOf bytes
+abbrev pub ReadsAlike : List ℕ → Type 0
+ReadsAlike bytes = (more : List ℕ) → readOf (bytes ++ more) ≡ readOf bytes

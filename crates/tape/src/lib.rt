@@ -1,4 +1,4 @@
-// The replay tape (01): its records, read from bytes, and the table of the session that it is replayed on. What each is stands
+// The replay tape (PROTOCOL.md, 10): its records, read from bytes, and the table of the session that it is replayed on. What each is stands
 // in specs/.
 pub mod layout;
 pub mod reader;

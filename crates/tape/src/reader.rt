@@ -19,7 +19,7 @@ ghost use mathlib.Core.Path.{_≡_};
 ghost use Prim.Native.Nat.{_+_, _≤_};
 ghost use lib.ListN.{length};
 ghost use Rattle.wire.specs.Fields.{field};
-ghost use Rattle.tape.specs.Tape.{lengthOf, streamHead, completionHead, headOf, readOf, nextOf, wantedOf, streamOf};
+ghost use Rattle.tape.specs.Tape.{lengthOf, streamHead, completionHead, headOf, readOf, readBehind, wantedOf, streamOf};
 
 // A record: how many stream bytes it has; a completion by the device (actual is actual_length); a close. `fieldsOf` in specs/
 // gives each case's mark and fields.
@@ -159,7 +159,7 @@ pub fn read_record(bytes: &[u8]) -> Read
 
 // The record at the front of what is left of a tape, behind as many records as `before`: a tape has at most MAX_RECORDS.
 pub fn read_next(before: usize, bytes: &[u8]) -> Read
-    ensures { λ r. ⌜ r ≡ nextOf before (now (bytes .entry)) ⌝ }
+    ensures { λ r. ⌜ r ≡ readBehind before (now (bytes .entry)) ⌝ }
 {
     if MAX_RECORDS <= before {
         return Read::Bad;

@@ -2,12 +2,12 @@
 use crate::layout::DATA_LEN;
 use exports::device::Device;
 use exports::device::Interface;
-use exports::device::MAX_DEVICES;
-use exports::device::MAX_INTERFACES;
-use exports::device::PATH_LEN;
 use exports::device::Table;
+use ground::writing::write;
+use limits::MAX_DEVICES;
+use limits::MAX_INTERFACES;
+use limits::PATH_LEN;
 use wire::codes::BUSID_LEN;
-use wire::writing::write;
 ghost use mathlib.Core.Path.{_≡_};
 ghost use Rattle.tape.specs.Table.{tapePath, tapeBusid, tapeTable, deviceData};
 

@@ -1,14 +1,12 @@
 -- The lines that `trace` adds to those of `replay`: numbers in decimal, bytes in hexadecimal.
 use Prim.Native.Nat.{ℕ, _+_, _*_}
 use mathlib.Core.List.{List, [], _∷_, _++_}
+use mathlib.Core.Option.{Option, none, some}
 use lib.ListN.{take}
 use Rattle.wire.specs.Codes.{HEADER-LEN}
-use Rattle.pending.specs.declared.urb.Transfer.{Transfer}
+use Rattle.messages.specs.declared.message.Transfer.{Transfer}
 use Rattle.pending.specs.declared.urb.Urb.{Urb}
-use Rattle.events.specs.declared.answer.Removed.{Removed}
-use Rattle.events.specs.declared.answer.Removed.the-variants.{Ticket, Nothing}
-use Rattle.events.specs.declared.answer.Completion.{Completion}
-use Rattle.events.specs.declared.answer.Completion.the-variants.{Return, Refused}
+use Rattle.model.specs.Answers.{Outcome, refused, done}
 use Rattle.numerals.specs.Digits.{ascii, decimal, hexOf}
 use Rattle.numerals.specs.Texts.{WORD-LEN, FIELD-LEN, line}
 
@@ -22,15 +20,15 @@ abbrev pub feedTrace : ℕ → ℕ → List ℕ → List ℕ
 feedTrace consumed length reply = line "feed" (decimal consumed ∷ decimal length ∷ hexField reply ∷ [])
 
 -- Of an accepted submit: its record, and the data of an OUT.
-abbrev pub numbersOf : Transfer → List (List ℕ)
-numbersOf t =
-    decimal (t .ticket)
+abbrev pub recordFields : ℕ → Transfer → List (List ℕ)
+recordFields ticket t =
+    decimal ticket
     ∷ decimal (t .seqnum)
     ∷ decimal (t .direction)
     ∷ decimal (t .ep)
     ∷ decimal (t .flags)
     ∷ decimal (t .length)
-    ∷ decimal (t .frame)
+    ∷ decimal (t .start)
     ∷ decimal (t .packets)
     ∷ decimal (t .interval)
     ∷ []
@@ -40,17 +38,17 @@ abbrev pub RECORD-LEN : ℕ
 RECORD-LEN = WORD-LEN + 9 * FIELD-LEN
 
 abbrev pub recordTrace : Urb → List ℕ
-recordTrace u = line "record" (numbersOf (u .transfer) ++ (hexField (u .setup) ∷ []))
+recordTrace u = line "record" (recordFields (u .ticket) (u .transfer) ++ (hexField (u .setup) ∷ []))
 
 abbrev pub dataTrace : List ℕ → List ℕ
 dataTrace bytes = line "data" (hexField bytes ∷ [])
 
 -- Of an unlink: the ticket that it removed, if it did.
-abbrev pub removedTrace : Removed → List ℕ
-removedTrace (Ticket t) = line "removed" (decimal t ∷ [])
-removedTrace Nothing = line "removed" (ascii "-" ∷ [])
+abbrev pub removedTrace : Option ℕ → List ℕ
+removedTrace (some ticket) = line "removed" (decimal ticket ∷ [])
+removedTrace none = line "removed" (ascii "-" ∷ [])
 
 -- Of a completion: the length on the wire and the header of the reply, or 0 and none.
-abbrev pub headerTrace : Completion → List ℕ → List ℕ
-headerTrace (Return wire) header = line "header" (decimal wire ∷ hexField (take HEADER-LEN header) ∷ [])
-headerTrace (Refused number) header = line "header" (decimal 0 ∷ hexField [] ∷ [])
+abbrev pub headerTrace : Outcome ℕ → List ℕ → List ℕ
+headerTrace (done wire) header = line "header" (decimal wire ∷ hexField (take HEADER-LEN header) ∷ [])
+headerTrace (refused number) header = line "header" (decimal 0 ∷ hexField [] ∷ [])

@@ -1,6 +1,8 @@
 // The lines that the program `trace` adds to those of `replay`, as bytes. What each is stands in specs/.
 use events::answer::Completion;
 use events::answer::Removed;
+use ground::writing::write;
+use messages::message::Transfer;
 use numerals::text::Text;
 use numerals::text::added;
 use numerals::text::begun;
@@ -8,16 +10,15 @@ use numerals::text::ended;
 use numerals::text::put;
 use numerals::text::put_bytes;
 use numerals::text::with_number;
-use pending::urb::Transfer;
 use wire::codes::HEADER_LEN;
 use wire::codes::SETUP_LEN;
-use wire::writing::write;
 ghost use Prim.Native.Nat.{_+_, _*_, _≤_};
 ghost use mathlib.Core.List.{[], _∷_};
-ghost use Rattle.wire.specs.Writing.{Wrote};
+ghost use Rattle.ground.specs.Writing.{Wrote};
+ghost use Rattle.events.specs.Answers.{removedOf, completionOf};
 ghost use Rattle.numerals.specs.Digits.{ascii, decimal};
-ghost use Rattle.numerals.specs.Texts.{TEXT-LEN, FIELD-LEN, fields, lineOf, textOf, Holds};
-ghost use Rattle.traces.specs.Traces.{RECORD-LEN, hexField, feedTrace, numbersOf, recordTrace, dataTrace, removedTrace, headerTrace};
+ghost use Rattle.numerals.specs.Texts.{TEXT-LEN, FIELD-LEN, fields, lineOf, textOf, TextHolds};
+ghost use Rattle.traces.specs.Traces.{RECORD-LEN, hexField, feedTrace, recordFields, recordTrace, dataTrace, removedTrace, headerTrace};
 
 // A line whose last field is bytes.
 fn put_hex(t: Text, bytes: &[u8], out: &mut [u8]) -> usize
@@ -45,7 +46,7 @@ pub fn trace_feed(consumed: usize, length: usize, reply: &[u8], out: &mut [u8]) 
 // Four fields more.
 fn with_four(t: Text, a: u32, b: u32, c: u32, d: u32) -> Text
     requires { ⌜ t .len + 4 * FIELD-LEN ≤ TEXT-LEN ⌝ }
-    ensures { λ r. ⌜ Holds r (fields (textOf t) (decimal a ∷ decimal b ∷ decimal c ∷ decimal d ∷ [])) (t .len + 4 * FIELD-LEN) ⌝ }
+    ensures { λ r. ⌜ TextHolds r (fields (textOf t) (decimal a ∷ decimal b ∷ decimal c ∷ decimal d ∷ [])) (t .len + 4 * FIELD-LEN) ⌝ }
 {
     let first = with_number(t, a as u64);
     let second = with_number(first, b as u64);
@@ -54,20 +55,20 @@ fn with_four(t: Text, a: u32, b: u32, c: u32, d: u32) -> Text
 }
 
 // The numbers of a record.
-fn record_text(t: Transfer) -> Text
-    ensures { λ r. ⌜ Holds r (fields (ascii "record") (numbersOf t)) RECORD-LEN ⌝ }
+fn record_text(ticket: u64, t: Transfer) -> Text
+    ensures { λ r. ⌜ TextHolds r (fields (ascii "record") (recordFields ticket t)) RECORD-LEN ⌝ }
 {
     let w = begun(b"record");
-    let ticket = with_number(w, t.ticket);
-    let front = with_four(ticket, t.seqnum, t.direction, t.ep, t.flags);
-    with_four(front, t.length, t.frame, t.packets, t.interval)
+    let first = with_number(w, ticket);
+    let front = with_four(first, t.seqnum, t.direction, t.ep, t.flags);
+    with_four(front, t.length, t.start, t.packets, t.interval)
 }
 
 // The same of an accepted submit's record.
-pub fn trace_record(t: Transfer, setup: [u8; SETUP_LEN], out: &mut [u8]) -> usize
-    ensures { λ n. ⌜ Wrote (recordTrace (record { transfer = t; setup = setup })) (now (out .entry)) (now (out .exit)) n ⌝ }
+pub fn trace_record(ticket: u64, t: Transfer, setup: [u8; SETUP_LEN], out: &mut [u8]) -> usize
+    ensures { λ n. ⌜ Wrote (recordTrace (record { ticket = ticket; transfer = t; setup = setup })) (now (out .entry)) (now (out .exit)) n ⌝ }
 {
-    let numbers = record_text(t);
+    let numbers = record_text(ticket, t);
     put_hex(numbers, &setup, out)
 }
 
@@ -81,7 +82,7 @@ pub fn trace_data(bytes: &[u8], out: &mut [u8]) -> usize
 
 // The same of what an unlink removed.
 pub fn trace_removed(r: Removed, out: &mut [u8]) -> usize
-    ensures { λ n. ⌜ Wrote (removedTrace r) (now (out .entry)) (now (out .exit)) n ⌝ }
+    ensures { λ n. ⌜ Wrote (removedTrace (removedOf r)) (now (out .entry)) (now (out .exit)) n ⌝ }
 {
     match r {
         Removed::Ticket(ticket) => {
@@ -96,7 +97,7 @@ pub fn trace_removed(r: Removed, out: &mut [u8]) -> usize
 
 // The same of a completion and the header buffer that it left.
 pub fn trace_header(answer: Completion, header: &[u8], out: &mut [u8]) -> usize
-    ensures { λ n. ⌜ Wrote (headerTrace answer (now (header .entry))) (now (out .entry)) (now (out .exit)) n ⌝ }
+    ensures { λ n. ⌜ Wrote (headerTrace (completionOf answer) (now (header .entry))) (now (out .entry)) (now (out .exit)) n ⌝ }
 {
     match answer {
         Completion::Return(wire) => {

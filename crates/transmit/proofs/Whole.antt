@@ -11,7 +11,7 @@ use lib.ListN.{length, take}
 use lib.Seq.{take-add}
 use borrow.Author.Tests.{eqb-true}
 use Rattle.wire.specs.Codes.{HEADER-LEN, DIR-IN}
-use Rattle.transmit.specs.Part.{next, segments, partOf, wireLength, replyOf, sentAfter, outAfter, Sends, SentWhole, ReplySent}
+use Rattle.transmit.specs.Part.{next, segments, partOf, sentAfter, outAfter, Sends, SentWhole, ReplySent}
 use Rattle.transmit.proofs.Segments.{next-in-place, next-within, next-at-most, next-advances, next-empty-iff}
 use Rattle.transmit.proofs.Parts.{flatten-segments, segments-length, part-next}
 

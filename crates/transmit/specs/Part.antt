@@ -1,4 +1,4 @@
--- "Sending without copying" (01): the part that goes out next, and what is out after some steps.
+-- Sending without copying (PROTOCOL.md, 9): the part that goes out next, and what is out after some steps.
 use Prim.Native.Nat.{ℕ, zero, suc, _+_, _-_, _≤_, _<_, min}
 use mathlib.Core.Bool.{cond}
 use mathlib.Core.List.{List, [], _∷_, _++_}
@@ -64,7 +64,7 @@ abbrev pub outAfter : Sender → (ℕ → ℕ) → ℕ → List ℕ
 outAfter send most zero = []
 outAfter send most (suc k) = outAfter send most k ++ partAt send most k
 
--- "the whole goes out, in order, within 48 + n steps" (01): a sender puts out a whole of `total` bytes, whatever each
+-- "the whole goes out, in order, within 48 + n steps": a sender puts out a whole of `total` bytes, whatever each
 -- step may send. The last two are of steps that may each send at least one byte.
 pub record Sends (send : Sender) (whole : List ℕ) (total : ℕ) : Type 0 where
   pub size : length whole ≡ total

@@ -1,5 +1,4 @@
 -- Each table of tests decides as its table of conditions says.
 pub mod Deciding
-pub mod Match
 pub mod Tables
 pub mod Good

@@ -1,25 +1,30 @@
--- Each table of tests matches its table of conditions: a number is given exactly when its condition holds and none before it.
+-- Each table of tests matches its table of conditions: an answer is given exactly when its condition holds and none
+-- before it.
 use Prim.Native.Nat.{ℕ, suc, _<_}
 use mathlib.Core.Path.{_≡_, refl}
 use mathlib.Core.Logic.{_↔_}
-use mathlib.Core.Bool.{Bool, true, false, not, _||_}
+use mathlib.Core.List.{List, [], _∷_, _++_}
+use mathlib.Core.Bool.{Bool, true, false, not}
+use lib.Dec.{eqb}
 use Rattle.wire.specs.Codes
 use Rattle.messages.specs.declared.request.Request.{Request}
-use Rattle.messages.specs.declared.message.Submit.{Submit}
-use Rattle.exports.proofs.Tests.{leb-iff, eqb-iff, not-iff, and-iff, not-or}
-use Rattle.pending.specs.Pending.{MAX-PENDING}
-use Rattle.verdicts.specs.Limits
-use Rattle.verdicts.specs.Verdicts.{feedTests, feedRows, requestTests, requestRows, messageTests, messageRows, submitTests, submitRows, completeTests, completeRows}
+use Rattle.messages.specs.declared.message.Header.{Header}
+use Rattle.messages.specs.declared.message.Transfer.{Transfer}
+use Rattle.ground.proofs.Tests.{leb-iff, eqb-iff, not-iff, and-iff, or-iff, neither, iff-trans}
+use Rattle.limits.specs.Limits
+use Rattle.ground.specs.Tests.{Test, test}
+use Rattle.ground.specs.Rows.{Row, row}
+use Rattle.verdicts.specs.Verdicts.{fault, feedTests, feedRows, requestTests, requestRows, transferTests, transferRows, headerTests, headerRows}
+use Rattle.verdicts.specs.Verdicts.{submitTests, submitRows, completionTests, completionRows}
 use Rattle.verdicts.specs.declared.verdict.Completing.{Completing}
-use Rattle.verdicts.proofs.Match.{Match, or-iff}
+use Rattle.verdicts.specs.declared.verdict.Fault.{Fault}
+use Rattle.ground.proofs.Match.{Match, guarded-match}
 
-neither : {s t : Bool} {P Q : Type 0} → (s ≡ true) ↔ P → (t ≡ true) ↔ Q → (not (s || t) ≡ true) ↔ ((P → ⊥) × (Q → ⊥))
-neither {s} {t} p q = rw (not-or s t) (and-iff (not-iff p) (not-iff q))
+pub iff-refl : {P : Type 0} → P ↔ P
+iff-refl = ((λ x. x), λ x. x)
 
-iff-trans : {P Q R : Type 0} → P ↔ Q → Q ↔ R → P ↔ R
-iff-trans p q = ((λ x. q .0 (p .0 x)), λ y. p .1 (q .1 y))
-
-pub feed-match : (closed : Bool) (work reply : ℕ) (Closed : Type 0) → (closed ≡ true) ↔ Closed → Match (feedTests closed work reply) (feedRows Closed work reply)
+pub feed-match : (closed : Bool) (work reply : ℕ) (Closed : Type 0) → (closed ≡ true) ↔ Closed
+    → Match (feedTests closed work reply) (feedRows Closed work reply)
 feed-match closed work reply Closed c = (
   refl,
   c,
@@ -35,43 +40,51 @@ request-match r = (
       (refl, neither (eqb-iff (r .code) Codes.OP-REQ-DEVLIST) (eqb-iff (r .code) Codes.OP-REQ-IMPORT), λ _. tt),
 )
 
-pub message-match : (command : ℕ) (u : Submit) (taken : Bool) (Taken : Type 0) → (taken ≡ true) ↔ Taken → Match (messageTests command u taken) (messageRows command u Taken)
-message-match command u taken Taken t =
-    let c = eqb-iff command Codes.CMD-SUBMIT in (
-      refl,
-      neither c (eqb-iff command Codes.CMD-UNLINK),
-      λ _. (
-        refl,
-        and-iff c (leb-iff (suc Codes.DIR-IN) (u .direction)),
-        λ _. (
-          refl,
-          and-iff c (leb-iff (suc Limits.MAX-TRANSFER) (u .length)),
-          λ _. (
-            refl,
-            and-iff c (neither (eqb-iff (u .packets) 0) (eqb-iff (u .packets) Limits.NO-PACKETS)),
-            λ _. (refl, and-iff c t, λ _. tt),
-          ),
-        ),
-      ),
-    )
-
-pub submit-match : (u : Submit) (devid pending accepted : ℕ) → Match (submitTests u devid pending accepted) (submitRows u devid pending accepted)
-submit-match u devid pending accepted = (
+-- with whatever tests come behind them
+transfer-then : (t : Transfer) (ts : List (Test Fault)) (rs : List (Row Fault)) → Match ts rs → Match (transferTests t ++ ts) (transferRows t ++ rs)
+transfer-then t ts rs m = (
   refl,
-  not-iff (eqb-iff (u .devid) devid),
+  leb-iff (suc Codes.DIR-IN) (t .direction),
   λ _. (
     refl,
-    leb-iff (suc Limits.MAX-EP) (u .ep),
+    leb-iff (suc Limits.MAX-TRANSFER) (t .length),
     λ _.
-        (refl, or-iff (leb-iff MAX-PENDING pending) (leb-iff Limits.LAST-TICKET accepted), λ _. tt),
+        (refl, neither (eqb-iff (t .packets) 0) (eqb-iff (t .packets) Limits.NO-PACKETS), λ _. m),
+  ),
+)
+
+pub transfer-match : (t : Transfer) → Match (transferTests t) (transferRows t)
+transfer-match t = transfer-then t [] [] tt
+
+pub header-match : (h : Header) (taken : Bool) (Taken : Type 0) → (taken ≡ true) ↔ Taken → Match (headerTests h taken) (headerRows h Taken)
+header-match h taken Taken t =
+    let c = eqb-iff (h .command) Codes.CMD-SUBMIT in
+    let pending = test (fault Limits.SEQNUM-PENDING) taken ∷ [] in
+    let rows = row (fault Limits.SEQNUM-PENDING) Taken ∷ [] in (
+      refl,
+      neither c (eqb-iff (h .command) Codes.CMD-UNLINK),
+      λ _. guarded-match (eqb (h .command) Codes.CMD-SUBMIT) c (transferTests (h .transfer) ++ pending) (transferRows (h .transfer) ++ rows)
+          (transfer-then (h .transfer) pending rows (refl, t, λ _. tt)),
+    )
+
+pub submit-match : (h : Header) (devid pending accepted : ℕ) → Match (submitTests h devid pending accepted) (submitRows h devid pending accepted)
+submit-match h devid pending accepted = (
+  refl,
+  not-iff (eqb-iff (h .devid) devid),
+  λ _. (
+    refl,
+    leb-iff (suc Limits.MAX-EP) (h .transfer .ep),
+    λ _.
+        (refl, or-iff (leb-iff Limits.MAX-PENDING pending) (leb-iff Limits.LAST-TICKET accepted), λ _. tt),
   ),
 )
 
 -- the last two rows are asked of the URB that the ticket names, where there is one
-pub complete-match : (c : Completing) (Closed Missing : Type 0) (Of : (ℕ → ℕ → Type 0) → Type 0)
-    → (c .closed ≡ true) ↔ Closed → (not (c .found) ≡ true) ↔ Missing → (not (c .found) ≡ false → (P : ℕ → ℕ → Type 0) → P (c .length) (c .direction) ↔ Of P)
-    → Match (completeTests c) (completeRows c Closed Missing Of)
-complete-match c Closed Missing Of h m o = (
+pub completion-match : (c : Completing) (Closed Missing : Type 0) (Of : (ℕ → ℕ → Type 0) → Type 0)
+    → (c .closed ≡ true) ↔ Closed → (not (c .found) ≡ true) ↔ Missing
+    → (not (c .found) ≡ false → (P : ℕ → ℕ → Type 0) → P (c .length) (c .direction) ↔ Of P)
+    → Match (completionTests c) (completionRows c Closed Missing Of)
+completion-match c Closed Missing Of h m o = (
   refl,
   h,
   λ _. (
@@ -82,14 +95,14 @@ complete-match c Closed Missing Of h m o = (
       m,
       λ f. (
         refl,
-        ((λ p. p), λ p. p),
+        iff-refl,
         λ _. (
           refl,
           iff-trans (leb-iff (suc (c .length)) (c .actual)) (o f (λ length direction. length < c .actual)),
           λ _. (
             refl,
-            iff-trans (and-iff (eqb-iff (c .direction) Codes.DIR-IN) (leb-iff (suc (c .frame)) (c .actual)))
-                (o f (λ length direction. (direction ≡ Codes.DIR-IN) × (c .frame < c .actual))),
+            iff-trans (and-iff (eqb-iff (c .direction) Codes.DIR-IN) (leb-iff (suc (c .payload)) (c .actual)))
+                (o f (λ length direction. (direction ≡ Codes.DIR-IN) × (c .payload < c .actual))),
             λ _. tt,
           ),
         ),

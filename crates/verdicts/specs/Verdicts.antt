@@ -1,28 +1,48 @@
--- "When the box says no" (01): each act's ordered table, once as tests that are computed and once as the conditions that they
+-- The numbers of PROTOCOL.md, 5 and 6: each act's ordered table, once as tests that are computed and once as the conditions that they
 -- stand for.
 use Prim.Native.Nat.{ℕ, _<_, _≤_}
 use mathlib.Core.Path.{_≡_}
-use mathlib.Core.Bool.{Bool, true, not, _&&_, _||_}
-use mathlib.Core.List.{List, [], _∷_}
+use mathlib.Core.Bool.{Bool, true, not, cond, _&&_, _||_}
+use mathlib.Core.List.{List, [], _∷_, _++_}
 use mathlib.Core.Logic.{_⊎_}
 use mathlib.Core.Option.{Option, none, some}
 use lib.Dec.{eqb, leb, ltb}
 use Rattle.wire.specs.Codes
 use Rattle.wire.specs.Status.{signedOf, positive, minus}
 use Rattle.messages.specs.declared.request.Request.{Request}
-use Rattle.messages.specs.declared.message.Submit.{Submit}
-use Rattle.pending.specs.Pending.{MAX-PENDING}
-use Rattle.verdicts.specs.Limits
-use Rattle.verdicts.specs.Tests.{Test, test}
-use Rattle.verdicts.specs.Rows.{Row, row}
-use Rattle.verdicts.specs.declared.verdict.Verdict.{Verdict}
-use Rattle.verdicts.specs.declared.verdict.Verdict.the-variants.{Good, Bad}
+use Rattle.messages.specs.declared.message.Header.{Header}
+use Rattle.messages.specs.declared.message.Transfer.{Transfer}
+use Rattle.limits.specs.Limits
+use Rattle.ground.specs.Tests.{Test, test}
+use Rattle.ground.specs.Rows.{Row, row}
+use Rattle.verdicts.specs.declared.verdict.Admission.{Admission}
+use Rattle.verdicts.specs.declared.verdict.Admission.the-variants.{Admitted, Refused}
+use Rattle.verdicts.specs.declared.verdict.Fault.{Fault}
+use Rattle.verdicts.specs.declared.verdict.Reading.{Reading}
+use Rattle.verdicts.specs.declared.verdict.Reading.the-variants.{Sound, Faulty}
+use Rattle.verdicts.specs.declared.verdict.Acceptance.{Acceptance}
+use Rattle.verdicts.specs.declared.verdict.Acceptance.the-variants.{Accepted, Answered}
 use Rattle.verdicts.specs.declared.verdict.Completing.{Completing}
 
--- What the code answers: the number of the first test that holds, if one does.
-abbrev pub verdictOf : Option ℕ → Verdict
-verdictOf none = Good
-verdictOf (some n) = Bad n
+-- ## What the code answers by the first test that holds, if one does
+
+-- An act is refused by number.
+abbrev pub admissionOf : Option ℕ → Admission
+admissionOf none = Admitted
+admissionOf (some n) = Refused n
+
+-- A fault of the stream, by number.
+abbrev pub fault : ℕ → Fault
+fault n = record { number = n }
+
+abbrev pub readingOf : Option Fault → Reading
+readingOf none = Sound
+readingOf (some f) = Faulty f
+
+-- A submit is answered with a status.
+abbrev pub acceptanceOf : Option ℕ → Acceptance
+acceptanceOf none = Accepted
+acceptanceOf (some st) = Answered st
 
 abbrev pub Not : ℕ → ℕ → Type 0
 Not a b = a ≡ b → ⊥
@@ -30,13 +50,13 @@ Not a b = a ≡ b → ⊥
 -- ## Feed: before a byte is looked at
 
 -- A session that is closed, and the sizes of the lent buffers.
-abbrev pub feedTests : (closed : Bool) → (work reply : ℕ) → List Test
+abbrev pub feedTests : (closed : Bool) → (work reply : ℕ) → List (Test ℕ)
 feedTests closed work reply =
     test Limits.SESSION-CLOSED closed
     ∷ test Limits.SHORT-BUFFER (ltb work Limits.WORK-LEN || ltb reply Limits.REPLY-LEN)
     ∷ []
 
-abbrev pub feedRows : (closed : Type 0) → (work reply : ℕ) → List Row
+abbrev pub feedRows : (closed : Type 0) → (work reply : ℕ) → List (Row ℕ)
 feedRows closed work reply =
     row Limits.SESSION-CLOSED closed
     ∷ row Limits.SHORT-BUFFER ((work < Limits.WORK-LEN) ⊎ (reply < Limits.REPLY-LEN))
@@ -44,77 +64,89 @@ feedRows closed work reply =
 
 -- ## Feed: "Tests 10 and 11 come with the 8th byte of a request"
 
-abbrev pub requestTests : Request → List Test
+abbrev pub requestTests : Request → List (Test Fault)
 requestTests r =
-    test Limits.BAD-VERSION (not (eqb (r .version) Codes.VERSION))
-    ∷ test Limits.BAD-CODE (not (eqb (r .code) Codes.OP-REQ-DEVLIST || eqb (r .code) Codes.OP-REQ-IMPORT))
+    test (fault Limits.BAD-VERSION) (not (eqb (r .version) Codes.VERSION))
+    ∷ test (fault Limits.BAD-CODE) (not (eqb (r .code) Codes.OP-REQ-DEVLIST || eqb (r .code) Codes.OP-REQ-IMPORT))
     ∷ []
 
-abbrev pub requestRows : Request → List Row
+abbrev pub requestRows : Request → List (Row Fault)
 requestRows r =
-    row Limits.BAD-VERSION (Not (r .version) Codes.VERSION)
-    ∷ row Limits.BAD-CODE (Not (r .code) Codes.OP-REQ-DEVLIST × Not (r .code) Codes.OP-REQ-IMPORT)
+    row (fault Limits.BAD-VERSION) (Not (r .version) Codes.VERSION)
+    ∷ row (fault Limits.BAD-CODE) (Not (r .code) Codes.OP-REQ-DEVLIST × Not (r .code) Codes.OP-REQ-IMPORT)
     ∷ []
 
 -- ## Feed: "12 to 16 with the 48th byte of a message, 13 to 16 for submits only"
 
--- taken: the submit's seqnum is pending.
-abbrev pub messageTests : (command : ℕ) → Submit → (taken : Bool) → List Test
-messageTests command u taken =
-    let isSubmit = eqb command Codes.CMD-SUBMIT in
-    test Limits.BAD-COMMAND (not (isSubmit || eqb command Codes.CMD-UNLINK))
-    ∷ test Limits.BAD-DIRECTION (isSubmit && ltb Codes.DIR-IN (u .direction))
-    ∷ test Limits.BAD-LENGTH (isSubmit && ltb Limits.MAX-TRANSFER (u .length))
-    ∷ test Limits.BAD-PACKETS (isSubmit && not (eqb (u .packets) 0 || eqb (u .packets) Limits.NO-PACKETS))
-    ∷ test Limits.SEQNUM-PENDING (isSubmit && taken)
+-- 13 to 15: a submit, by its own fields alone.
+abbrev pub transferTests : Transfer → List (Test Fault)
+transferTests t =
+    test (fault Limits.BAD-DIRECTION) (ltb Codes.DIR-IN (t .direction))
+    ∷ test (fault Limits.BAD-LENGTH) (ltb Limits.MAX-TRANSFER (t .length))
+    ∷ test (fault Limits.BAD-PACKETS) (not (eqb (t .packets) 0 || eqb (t .packets) Limits.NO-PACKETS))
     ∷ []
 
-abbrev pub messageRows : (command : ℕ) → Submit → (taken : Type 0) → List Row
-messageRows command u taken =
-    let isSubmit = command ≡ Codes.CMD-SUBMIT in
-    row Limits.BAD-COMMAND (Not command Codes.CMD-SUBMIT × Not command Codes.CMD-UNLINK)
-    ∷ row Limits.BAD-DIRECTION (isSubmit × (Codes.DIR-IN < u .direction))
-    ∷ row Limits.BAD-LENGTH (isSubmit × (Limits.MAX-TRANSFER < u .length))
-    ∷ row Limits.BAD-PACKETS (isSubmit × (Not (u .packets) 0 × Not (u .packets) Limits.NO-PACKETS))
-    ∷ row Limits.SEQNUM-PENDING (isSubmit × taken)
+abbrev pub transferRows : Transfer → List (Row Fault)
+transferRows t =
+    row (fault Limits.BAD-DIRECTION) (Codes.DIR-IN < t .direction)
+    ∷ row (fault Limits.BAD-LENGTH) (Limits.MAX-TRANSFER < t .length)
+    ∷ row (fault Limits.BAD-PACKETS) (Not (t .packets) 0 × Not (t .packets) Limits.NO-PACKETS)
+    ∷ []
+
+-- taken: the submit's seqnum is pending.
+abbrev pub headerTests : Header → (taken : Bool) → List (Test Fault)
+headerTests h taken =
+    let isSubmit = eqb (h .command) Codes.CMD-SUBMIT in
+    test (fault Limits.BAD-COMMAND) (not (isSubmit || eqb (h .command) Codes.CMD-UNLINK))
+    ∷ cond isSubmit (transferTests (h .transfer) ++ (test (fault Limits.SEQNUM-PENDING) taken ∷ [])) []
+
+abbrev pub headerRows : Header → (taken : Type 0) → List (Row Fault)
+headerRows h taken =
+    let isSubmit = h .command ≡ Codes.CMD-SUBMIT in
+    let t = h .transfer in
+    row (fault Limits.BAD-COMMAND) (Not (h .command) Codes.CMD-SUBMIT × Not (h .command) Codes.CMD-UNLINK)
+    ∷ row (fault Limits.BAD-DIRECTION) (isSubmit × (Codes.DIR-IN < t .direction))
+    ∷ row (fault Limits.BAD-LENGTH) (isSubmit × (Limits.MAX-TRANSFER < t .length))
+    ∷ row (fault Limits.BAD-PACKETS) (isSubmit × (Not (t .packets) 0 × Not (t .packets) Limits.NO-PACKETS))
+    ∷ row (fault Limits.SEQNUM-PENDING) (isSubmit × taken)
     ∷ []
 
 -- ## Feed: a submit that passes is judged when its last byte is in, by status
 
 -- By the devid of the device that is attached, and how many URBs are pending and were ever accepted.
-abbrev pub submitTests : Submit → (devid pending accepted : ℕ) → List Test
-submitTests u devid pending accepted =
-    test (minus Codes.ENODEV) (not (eqb (u .devid) devid))
-    ∷ test (minus Codes.EINVAL) (ltb Limits.MAX-EP (u .ep))
-    ∷ test (minus Codes.ENOMEM) (leb MAX-PENDING pending || leb Limits.LAST-TICKET accepted)
+abbrev pub submitTests : Header → (devid pending accepted : ℕ) → List (Test ℕ)
+submitTests h devid pending accepted =
+    test (minus Codes.ENODEV) (not (eqb (h .devid) devid))
+    ∷ test (minus Codes.EINVAL) (ltb Limits.MAX-EP (h .transfer .ep))
+    ∷ test (minus Codes.ENOMEM) (leb Limits.MAX-PENDING pending || leb Limits.LAST-TICKET accepted)
     ∷ []
 
-abbrev pub submitRows : Submit → (devid pending accepted : ℕ) → List Row
-submitRows u devid pending accepted =
-    row (minus Codes.ENODEV) (Not (u .devid) devid)
-    ∷ row (minus Codes.EINVAL) (Limits.MAX-EP < u .ep)
-    ∷ row (minus Codes.ENOMEM) ((MAX-PENDING ≤ pending) ⊎ (Limits.LAST-TICKET ≤ accepted))
+abbrev pub submitRows : Header → (devid pending accepted : ℕ) → List (Row ℕ)
+submitRows h devid pending accepted =
+    row (minus Codes.ENODEV) (Not (h .devid) devid)
+    ∷ row (minus Codes.EINVAL) (Limits.MAX-EP < h .transfer .ep)
+    ∷ row (minus Codes.ENOMEM) ((Limits.MAX-PENDING ≤ pending) ⊎ (Limits.LAST-TICKET ≤ accepted))
     ∷ []
 
 -- ## Complete
 
-abbrev pub completeTests : Completing → List Test
-completeTests c =
+abbrev pub completionTests : Completing → List (Test ℕ)
+completionTests c =
     test Limits.SESSION-CLOSED (c .closed)
     ∷ test Limits.SHORT-BUFFER (ltb (c .header) Codes.HEADER-LEN)
     ∷ test Limits.NOT-PENDING (not (c .found))
     ∷ test Limits.STATUS-ABOVE-0 (positive (signedOf (c .status)))
     ∷ test Limits.ACTUAL-TOO-LONG (ltb (c .length) (c .actual))
-    ∷ test Limits.SHORT-DATA (eqb (c .direction) Codes.DIR-IN && ltb (c .frame) (c .actual))
+    ∷ test Limits.SHORT-DATA (eqb (c .direction) Codes.DIR-IN && ltb (c .payload) (c .actual))
     ∷ []
 
 -- Of P: the pending URB that the ticket names has a length and a direction with P.
-abbrev pub completeRows : Completing → (closed missing : Type 0) → (Of : (ℕ → ℕ → Type 0) → Type 0) → List Row
-completeRows c closed missing Of =
+abbrev pub completionRows : Completing → (closed missing : Type 0) → (Of : (ℕ → ℕ → Type 0) → Type 0) → List (Row ℕ)
+completionRows c closed missing Of =
     row Limits.SESSION-CLOSED closed
     ∷ row Limits.SHORT-BUFFER (c .header < Codes.HEADER-LEN)
     ∷ row Limits.NOT-PENDING missing
     ∷ row Limits.STATUS-ABOVE-0 (positive (signedOf (c .status)) ≡ true)
     ∷ row Limits.ACTUAL-TOO-LONG (Of (λ length direction. length < c .actual))
-    ∷ row Limits.SHORT-DATA (Of (λ length direction. (direction ≡ Codes.DIR-IN) × (c .frame < c .actual)))
+    ∷ row Limits.SHORT-DATA (Of (λ length direction. (direction ≡ Codes.DIR-IN) × (c .payload < c .actual)))
     ∷ []

@@ -1,26 +1,28 @@
-// The decisions: each goes through its table in order and gives the number of the first test that holds.
-use crate::limits::ACTUAL_TOO_LONG;
-use crate::limits::BAD_CODE;
-use crate::limits::BAD_COMMAND;
-use crate::limits::BAD_DIRECTION;
-use crate::limits::BAD_LENGTH;
-use crate::limits::BAD_PACKETS;
-use crate::limits::BAD_VERSION;
-use crate::limits::LAST_TICKET;
-use crate::limits::MAX_EP;
-use crate::limits::MAX_TRANSFER;
-use crate::limits::NO_PACKETS;
-use crate::limits::NOT_PENDING;
-use crate::limits::REPLY_LEN;
-use crate::limits::SEQNUM_PENDING;
-use crate::limits::SESSION_CLOSED;
-use crate::limits::SHORT_BUFFER;
-use crate::limits::SHORT_DATA;
-use crate::limits::STATUS_ABOVE_0;
-use crate::limits::WORK_LEN;
-use messages::message::Submit;
+// The decisions: each goes through its table in order and gives the answer of the first test that holds. There are three kinds
+// of "no": an act's own refusal, a fault of the stream, a status that a submit is answered.
+use limits::ACTUAL_TOO_LONG;
+use limits::BAD_CODE;
+use limits::BAD_COMMAND;
+use limits::BAD_DIRECTION;
+use limits::BAD_LENGTH;
+use limits::BAD_PACKETS;
+use limits::BAD_VERSION;
+use limits::LAST_TICKET;
+use limits::MAX_EP;
+use limits::MAX_PENDING;
+use limits::MAX_TRANSFER;
+use limits::NO_PACKETS;
+use limits::NOT_PENDING;
+use limits::REPLY_LEN;
+use limits::SEQNUM_PENDING;
+use limits::SESSION_CLOSED;
+use limits::SHORT_BUFFER;
+use limits::SHORT_DATA;
+use limits::STATUS_ABOVE_0;
+use limits::WORK_LEN;
+use messages::message::Header;
+use messages::message::Transfer;
 use messages::request::Request;
-use pending::list::MAX_PENDING;
 use wire::codes::CMD_SUBMIT;
 use wire::codes::CMD_UNLINK;
 use wire::codes::DIR_IN;
@@ -36,46 +38,71 @@ ghost use mathlib.Core.Path.{_≡_};
 ghost use mathlib.Core.Bool.{_&&_, _||_};
 ghost use lib.Dec.{eqb, ltb};
 ghost use Rattle.wire.specs.Codes;
-ghost use Rattle.verdicts.specs.Limits;
-ghost use Rattle.verdicts.specs.Tests.{first};
-ghost use Rattle.verdicts.specs.Verdicts.{verdictOf, feedTests, requestTests, messageTests, submitTests, completeTests};
+ghost use Rattle.limits.specs.Limits;
+ghost use Rattle.ground.specs.Tests.{first};
+ghost use Rattle.verdicts.specs.Verdicts.{admissionOf, readingOf, acceptanceOf, fault, feedTests, requestTests, transferTests, headerTests, submitTests};
+ghost use Rattle.verdicts.specs.Verdicts.{completionTests};
 
-// No test holds, or the number of the first that does: a refusal, a break, or a status's bits.
-pub enum Verdict {
-    Good,
-    Bad(u32),
+// An act is admitted, or refused by number.
+pub enum Admission {
+    Admitted,
+    Refused(u32),
+}
+
+// A fault of the stream, by number: 10 to 16. Only the reader of a field makes one.
+#[repr(C)]
+pub struct Fault {
+    pub number: u32,
+}
+
+// What the reader of a field answers.
+pub enum Reading {
+    Sound,
+    Faulty(Fault),
+}
+
+// A whole submit is accepted, or answered with a status, by its bits.
+pub enum Acceptance {
+    Accepted,
+    Answered(u32),
+}
+
+fn faulty(number: u32) -> Reading
+    ensures { λ r. ⌜ r ≡ Reading.Faulty (fault number) ⌝ }
+{
+    Reading::Faulty(Fault { number })
 }
 
 // A feed, before a byte is looked at: is the session closed, and how long are the buffers?
-pub fn feed_verdict(closed: bool, work: usize, reply: usize) -> Verdict
-    ensures { λ v. ⌜ v ≡ verdictOf (first (feedTests closed work reply)) ⌝ }
+pub fn feed_refusal(closed: bool, work: usize, reply: usize) -> Admission
+    ensures { λ v. ⌜ v ≡ admissionOf (first (feedTests closed work reply)) ⌝ }
 {
     if closed {
-        return Verdict::Bad(SESSION_CLOSED);
+        return Admission::Refused(SESSION_CLOSED);
     }
     if work < WORK_LEN {
-        return Verdict::Bad(SHORT_BUFFER);
+        return Admission::Refused(SHORT_BUFFER);
     }
     if reply < REPLY_LEN {
-        return Verdict::Bad(SHORT_BUFFER);
+        return Admission::Refused(SHORT_BUFFER);
     }
-    Verdict::Good
+    Admission::Admitted
 }
 
 // A request, when its 8th byte is in.
-pub fn request_verdict(r: Request) -> Verdict
-    ensures { λ v. ⌜ v ≡ verdictOf (first (requestTests r)) ⌝ }
+pub fn request_fault(r: Request) -> Reading
+    ensures { λ v. ⌜ v ≡ readingOf (first (requestTests r)) ⌝ }
 {
     if r.version != VERSION {
-        return Verdict::Bad(BAD_VERSION);
+        return faulty(BAD_VERSION);
     }
     if r.code == OP_REQ_DEVLIST {
-        return Verdict::Good;
+        return Reading::Sound;
     }
     if r.code == OP_REQ_IMPORT {
-        return Verdict::Good;
+        return Reading::Sound;
     }
-    Verdict::Bad(BAD_CODE)
+    faulty(BAD_CODE)
 }
 
 // number_of_packets of a transfer that isn't isochronous.
@@ -88,51 +115,62 @@ fn good_packets(packets: u32) -> bool
     packets == NO_PACKETS
 }
 
-// A message, when its 48th byte is in; taken says whether a submit's seqnum is pending.
-pub fn message_verdict(command: u32, u: Submit, taken: bool) -> Verdict
-    ensures { λ v. ⌜ v ≡ verdictOf (first (messageTests command u taken)) ⌝ }
+// A submit, by its own fields alone.
+pub fn transfer_fault(t: Transfer) -> Reading
+    ensures { λ v. ⌜ v ≡ readingOf (first (transferTests t)) ⌝ }
 {
-    if command == CMD_UNLINK {
-        return Verdict::Good;
+    if DIR_IN < t.direction {
+        return faulty(BAD_DIRECTION);
     }
-    if command != CMD_SUBMIT {
-        return Verdict::Bad(BAD_COMMAND);
+    if MAX_TRANSFER < t.length {
+        return faulty(BAD_LENGTH);
     }
-    if DIR_IN < u.direction {
-        return Verdict::Bad(BAD_DIRECTION);
+    if !good_packets(t.packets) {
+        return faulty(BAD_PACKETS);
     }
-    if MAX_TRANSFER < u.length {
-        return Verdict::Bad(BAD_LENGTH);
+    Reading::Sound
+}
+
+// A message, when its 48th byte is in; taken says whether a submit's seqnum is pending.
+pub fn header_fault(h: Header, taken: bool) -> Reading
+    ensures { λ v. ⌜ v ≡ readingOf (first (headerTests h taken)) ⌝ }
+{
+    if h.command == CMD_UNLINK {
+        return Reading::Sound;
     }
-    if !good_packets(u.packets) {
-        return Verdict::Bad(BAD_PACKETS);
+    if h.command != CMD_SUBMIT {
+        return faulty(BAD_COMMAND);
+    }
+    let t = h.transfer;
+    if let Reading::Faulty(f) = transfer_fault(t) {
+        return Reading::Faulty(f);
     }
     if taken {
-        return Verdict::Bad(SEQNUM_PENDING);
+        return faulty(SEQNUM_PENDING);
     }
-    Verdict::Good
+    Reading::Sound
 }
 
 // A submit, when its last byte is in: by the devid that is attached, and how many are pending and were ever accepted.
-pub fn submit_verdict(u: Submit, devid: u64, pending: usize, accepted: u64) -> Verdict
-    ensures { λ v. ⌜ v ≡ verdictOf (first (submitTests u devid pending accepted)) ⌝ }
+pub fn submit_status(h: Header, devid: u64, pending: usize, accepted: u64) -> Acceptance
+    ensures { λ v. ⌜ v ≡ acceptanceOf (first (submitTests h devid pending accepted)) ⌝ }
 {
-    if u.devid as u64 != devid {
-        return Verdict::Bad(MINUS_ENODEV);
+    if h.devid as u64 != devid {
+        return Acceptance::Answered(MINUS_ENODEV);
     }
-    if MAX_EP < u.ep {
-        return Verdict::Bad(MINUS_EINVAL);
+    if MAX_EP < h.transfer.ep {
+        return Acceptance::Answered(MINUS_EINVAL);
     }
     if MAX_PENDING <= pending {
-        return Verdict::Bad(MINUS_ENOMEM);
+        return Acceptance::Answered(MINUS_ENOMEM);
     }
     if LAST_TICKET <= accepted {
-        return Verdict::Bad(MINUS_ENOMEM);
+        return Acceptance::Answered(MINUS_ENOMEM);
     }
-    Verdict::Good
+    Acceptance::Accepted
 }
 
-// What a completion is judged by: the session, the buffers' lengths (frame: the device data's), what it says, and the length
+// What a completion is judged by: the session, the buffers' lengths (payload: the device data's), what it says, and the length
 // and direction of the URB that was found under its ticket.
 pub struct Completing {
     pub closed: bool,
@@ -140,41 +178,41 @@ pub struct Completing {
     pub found: bool,
     pub status: u32,
     pub actual: u32,
-    pub frame: usize,
+    pub payload: usize,
     pub length: u32,
     pub direction: u32,
 }
 
-// An IN transfer takes its data from the device's, frame bytes long.
-fn short_data(direction: u32, frame: usize, actual: u32) -> bool
-    ensures { λ r. ⌜ r ≡ (eqb direction Codes.DIR-IN && ltb frame actual) ⌝ }
+// An IN transfer takes its data from the device's, payload bytes long.
+fn short_data(direction: u32, payload: usize, actual: u32) -> bool
+    ensures { λ r. ⌜ r ≡ (eqb direction Codes.DIR-IN && ltb payload actual) ⌝ }
 {
     if direction != DIR_IN {
         return false;
     }
-    frame < actual as usize
+    payload < actual as usize
 }
 
-pub fn complete_verdict(c: Completing) -> Verdict
-    ensures { λ v. ⌜ v ≡ verdictOf (first (completeTests c)) ⌝ }
+pub fn completion_refusal(c: Completing) -> Admission
+    ensures { λ v. ⌜ v ≡ admissionOf (first (completionTests c)) ⌝ }
 {
     if c.closed {
-        return Verdict::Bad(SESSION_CLOSED);
+        return Admission::Refused(SESSION_CLOSED);
     }
     if c.header < HEADER_LEN {
-        return Verdict::Bad(SHORT_BUFFER);
+        return Admission::Refused(SHORT_BUFFER);
     }
     if !c.found {
-        return Verdict::Bad(NOT_PENDING);
+        return Admission::Refused(NOT_PENDING);
     }
     if is_positive(c.status) {
-        return Verdict::Bad(STATUS_ABOVE_0);
+        return Admission::Refused(STATUS_ABOVE_0);
     }
     if c.length < c.actual {
-        return Verdict::Bad(ACTUAL_TOO_LONG);
+        return Admission::Refused(ACTUAL_TOO_LONG);
     }
-    if short_data(c.direction, c.frame, c.actual) {
-        return Verdict::Bad(SHORT_DATA);
+    if short_data(c.direction, c.payload, c.actual) {
+        return Admission::Refused(SHORT_DATA);
     }
-    Verdict::Good
+    Admission::Admitted
 }

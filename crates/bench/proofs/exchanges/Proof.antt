@@ -6,7 +6,8 @@ use Rattle.bench.proofs.exchanges.Statement.{statement}
 use Rattle.bench.proofs.exchanges.Tie as tie
 
 abbrev Inv-loop : tie.InvT-loop
-Inv-loop rounds message «data» work₀ reply₀ header₀ t₀ sum₀ i₀ work reply header t sum i = (i ≤ rounds) × (length work ≡ length work₀) × (length reply ≡ length reply₀) × (length header ≡ length header₀)
+Inv-loop rounds message «data» work₀ reply₀ header₀ t₀ sum₀ i₀ work reply header t sum i =
+    (i ≤ rounds) × (length work ≡ length work₀) × (length reply ≡ length reply₀) × (length header ≡ length header₀)
 
 abbrev μ-loop : tie.MeasureT-loop
 μ-loop rounds message «data» work₀ reply₀ header₀ t₀ sum₀ i₀ work reply header t sum i = rounds - i

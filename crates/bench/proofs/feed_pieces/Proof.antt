@@ -6,7 +6,8 @@ use Rattle.bench.proofs.feed_pieces.Statement.{statement}
 use Rattle.bench.proofs.feed_pieces.Tie as tie
 
 abbrev Inv-loop : tie.InvT-loop
-Inv-loop feeds size message work₀ reply₀ t₀ sum₀ at₀ i₀ work reply t sum at i = (i ≤ feeds) × (at ≤ length message) × (length work ≡ length work₀) × (length reply ≡ length reply₀)
+Inv-loop feeds size message work₀ reply₀ t₀ sum₀ at₀ i₀ work reply t sum at i =
+    (i ≤ feeds) × (at ≤ length message) × (length work ≡ length work₀) × (length reply ≡ length reply₀)
 
 abbrev μ-loop : tie.MeasureT-loop
 μ-loop feeds size message work₀ reply₀ t₀ sum₀ at₀ i₀ work reply t sum at i = feeds - i

@@ -1,14 +1,12 @@
 use native.Mathlib.Omega.{arith}
-use mathlib.Core.Path.{sym, _∙_}
+use mathlib.Core.Path.{sym, _∙_, _≡_}
 use borrow.Rule.Slice.PartMut.{same-len-mid}
 use mir.Syntax.{w64}
 use mir.Val.{Fits}
-use lib.ListN.{take, drop, length-take, length-drop}
+use lib.ListN.{take, drop, length-take, length-drop, length}
 use Rattle.tape.specs.Tape.{lengthOf}
 use Rattle.console.proofs.Whole.{next-whole}
 use Prim.Native.Nat.{_+_, _-_, _^_, _≤_, _<_}
-use mathlib.Core.Path.{_≡_}
-use lib.ListN.{length}
 use Rattle.tape.specs.Layout.{MAX-RECORDS}
 use borrow.Author.Needs.{needs}
 use Rattle.console.proofs.play_records.Statement.{statement}
@@ -118,18 +116,18 @@ part-play-record-end-2 c = search needs
 play-record-requires : tie.Need-play-record-requires Inv-loop μ-loop
 play-record-requires c κs = search needs
 
--- where a record is played: the loop's turn, the window, the room, and what was read
-abbrev loop : tie.After-play-record Inv-loop μ-loop → tie.At-loop Inv-loop μ-loop
-loop p = p .before .before .before .before .before .before .before .before .before .before .before .before .before .before .before .before .before .before .before .before
-
-abbrev refilled : tie.After-play-record Inv-loop μ-loop → tie.After-refill Inv-loop μ-loop
-refilled p = p .before .before .before .before .before .before .before .before .before .before .before .before .before .before .before .before .before
-
-abbrev found : tie.After-play-record Inv-loop μ-loop → tie.After-read Inv-loop μ-loop
-found p = p .before .before .before .before .before .before .before .before .before
-
+-- where a record is played: the room, what was read, the window, and the loop's turn
 abbrev roomy : tie.After-play-record Inv-loop μ-loop → tie.After-make-room Inv-loop μ-loop
 roomy p = p .before .before .before .before .before .before
+
+abbrev found : tie.After-play-record Inv-loop μ-loop → tie.After-read Inv-loop μ-loop
+found p = roomy p .before .before .before
+
+abbrev refilled : tie.After-play-record Inv-loop μ-loop → tie.After-refill Inv-loop μ-loop
+refilled p = found p .before .before .before .before .before .before .before .before
+
+abbrev loop : tie.After-play-record Inv-loop μ-loop → tie.At-loop Inv-loop μ-loop
+loop p = refilled p .before .before .before
 
 -- a length fits
 short : (l : tie.At-loop Inv-loop μ-loop) → length (l .before .before .before .before .before .before .args .out .now) < 2 ^ 64
@@ -172,7 +170,8 @@ add-next : tie.Need-add-next Inv-loop μ-loop
 add-next c =
     let p = c .before .before .before .before .before .before .before .before .before in
     let w = refilled p .refill in
-    let h : Fits w64 (w .result .at + c .record-len .result) = omega (arith, inside p, c .record-len .ensures, w .ensures .inside .1, w .kept .0, loop p .loop .inv .4, long (loop p)) in
+    let h : Fits w64 (w .result .at + c .record-len .result) =
+    omega (arith, inside p, c .record-len .ensures, w .ensures .inside .1, w .kept .0, loop p .loop .inv .4, long (loop p)) in
     h
 
 add-n : tie.Need-add-n Inv-loop μ-loop

@@ -4,10 +4,11 @@ use mathlib.Core.Path.{_≡_, refl, sym}
 use lib.ListN.{length}
 use Rattle.wire.specs.Codes.{OP-LEN, OP-REP-IMPORT}
 use Rattle.messages.specs.Messages.{replyHead}
-use Rattle.wire.proofs.Parts.{wrote-none, wrote-all, wrote-over, written-next}
+use Rattle.ground.proofs.Parts.{wrote-none, wrote-all, wrote-over, written-next}
 use Rattle.records.specs.Records.{DEVICE-LEN, Shaped, deviceRecord}
 use Rattle.importing.specs.Imports.{importReply}
-use Rattle.records.proofs.Records.{unmapped, record-length}
+use Rattle.ground.proofs.Lists.{unmapped}
+use Rattle.records.proofs.Records.{record-length}
 use Rattle.importing.proofs.Offsets.{import-length}
 use borrow.Author.Needs.{needs}
 use Rattle.importing.proofs.import_reply.Statement.{statement}
@@ -21,8 +22,10 @@ add-if1 c = search needs
 
 returns : tie.Need-returns
 returns c =
-    let s = c .before .before in
-    (wrote-none (importReply (s .args .d)) (s .args .reply .now) (rw (import-length (s .args .d) (shaped s)) (c .if1 .taken)), import-length (s .args .d) (shaped s))
+    let s = c .before .before in (
+      wrote-none (importReply (s .args .d)) (s .args .reply .now) (rw (import-length (s .args .d) (shaped s)) (c .if1 .taken)),
+      import-length (s .args .d) (shaped s),
+    )
 
 reply-head-requires : tie.Need-reply-head-requires
 reply-head-requires c κs = search needs
@@ -64,8 +67,12 @@ returns-2 c =
     let room : OP-LEN + DEVICE-LEN ≤ length D = n .before .if1 .left in
     let l1 : length (k1 .write .last .0) ≡ length D = k1 .write .kept .0 in
     let e1 = wrote-all H D (k1 .write .last .0) (k1 .write .result) (omega arith) (rw (n .reply-head .ensures) at (k1 .write .ensures)) in
-    let e2 = written-next D (k1 .write .last .0) H (deviceRecord d) (k2 .write-record .last .0) OP-LEN _ (k2 .write-record .result) refl refl e1 (omega (arith, record-length d (shaped s))) (k2 .write-record .ensures) in
-    (wrote-over (importReply d) D _ (OP-LEN + DEVICE-LEN) (omega (arith, import-length d (shaped s))) e2 (sym (import-length d (shaped s))), import-length d (shaped s))
+    let e2 =
+    written-next D (k1 .write .last .0) H (deviceRecord d) (k2 .write-record .last .0) OP-LEN _ (k2 .write-record .result) refl refl e1
+    (omega (arith, record-length d (shaped s))) (k2 .write-record .ensures) in (
+      wrote-over (importReply d) D _ (OP-LEN + DEVICE-LEN) (omega (arith, import-length d (shaped s))) e2 (sym (import-length d (shaped s))),
+      import-length d (shaped s),
+    )
 
 pub import-reply-spec : {M : Type 1} → statement M
 import-reply-spec =

@@ -1,4 +1,4 @@
-use Rattle.exports.specs.Rules.{every}
+use Rattle.ground.specs.Lists.{every, joined}
 use borrow.Author.Needs.{needs}
 use borrow.Author.Tests.{le-leb, lt-leb}
 use Prim.Native.Nat.{_≤_, _-_, _+_, _*_}
@@ -7,18 +7,19 @@ use mathlib.Core.Path.{_≡_, refl, _∙_}
 use mathlib.Core.Bool.{true, false}
 use mathlib.Core.List.{List, _∷_}
 use lib.ListN.{length, take, drop, getD, length-append}
-use Rattle.wire.specs.Fields.{joined}
 use Rattle.exports.specs.declared.device.Device.{Device}
-use Rattle.exports.specs.Devices.{noDevice, MAX-DEVICES}
-use Rattle.listing.specs.Lists.{LIST-HEAD-LEN, few, listed, MAX-LISTED}
-use Rattle.exports.proofs.Walks.{next-of, over-of}
+use Rattle.exports.specs.Devices.{noDevice}
+use Rattle.limits.specs.Limits.{MAX-DEVICES}
+use Rattle.listing.specs.Lists.{LIST-HEAD-LEN, few, listedDevice, MAX-LISTED}
+use Rattle.ground.proofs.Walks.{next-of, past-of}
 use Rattle.listing.proofs.list_len.Statement.{statement}
 use Rattle.listing.proofs.list_len.Tie as tie
 
 abbrev Inv-loop : tie.InvT-loop
 Inv-loop n devices len₀ i₀ len i =
     let ds = take n devices in
-    (i ≤ n) × (every few ds ≡ every few (drop i ds)) × (len + length (joined listed (drop i ds)) ≡ LIST-HEAD-LEN + length (joined listed ds)) × (len ≤ LIST-HEAD-LEN + i * MAX-LISTED)
+    (i ≤ n) × (every few ds ≡ every few (drop i ds)) × (len + length (joined listedDevice (drop i ds)) ≡ LIST-HEAD-LEN + length (joined listedDevice ds))
+    × (len ≤ LIST-HEAD-LEN + i * MAX-LISTED)
 
 abbrev μ-loop : tie.MeasureT-loop
 μ-loop n devices len₀ i₀ len i = n - i
@@ -73,14 +74,14 @@ loop-again c =
     let rest = drop (l .loop .i + 1) (ds l) in (
       omega arith,
       l .loop .inv .1 ∙ rw (t, le-leb _ _ (e .if1 .left)),
-      omega (arith, rw (t, length-append (listed d) (joined listed rest)) at (l .loop .inv .2), c .listed-len .ensures .0),
+      omega (arith, rw (t, length-append (listedDevice d) (joined listedDevice rest)) at (l .loop .inv .2), c .listed-len .ensures .0),
       omega (arith, c .listed-len .ensures .1),
     )
 
 returns-2 : tie.Need-returns-2 Inv-loop μ-loop
 returns-2 c =
     let l = c .before in
-    let e = over-of (λ l. l) (l .before .args .n) (l .before .args .t1) (l .loop .i) (omega arith) in
+    let e = past-of (λ l. l) (l .before .args .n) (l .before .args .t1) (l .loop .i) (omega arith) in
     let a : every few (ds l) ≡ true = l .loop .inv .1 ∙ rw e in
     (rw a (omega (arith, rw e at (l .loop .inv .2))), omega (arith, l .loop .inv .3, l .loop .inv .0, l .before .pre))
 

@@ -1,12 +1,11 @@
-use Rattle.exports.specs.Rules.{every}
+use Rattle.ground.specs.Lists.{every, joined}
 use native.Mathlib.Omega.{arith}
 use Prim.Native.Nat.{_+_}
 use mathlib.Core.Path.{_≡_}
 use mathlib.Core.Bool.{true, false}
 use lib.ListN.{length, take}
-use Rattle.wire.specs.Fields.{joined}
-use Rattle.wire.proofs.Parts.{wrote-none, wrote-over}
-use Rattle.listing.specs.Lists.{LIST-HEAD-LEN, few, listed, listReply}
+use Rattle.ground.proofs.Parts.{wrote-none, wrote-over}
+use Rattle.listing.specs.Lists.{LIST-HEAD-LEN, few, listedDevice, listReply}
 use Rattle.listing.proofs.Lists.{wrote-no-list, no-list-length, too-many, listable-by, list-is, list-length, none-listed, some-listed}
 use borrow.Author.Needs.{needs}
 use Rattle.listing.proofs.list_reply.Statement.{statement}
@@ -15,11 +14,11 @@ use Rattle.listing.proofs.list_reply.Tie as tie
 -- what the length says, where the table has a reply
 known : (c : tie.Else2) → let t = c .before .before .before .before .before .args .table in
     let ds = take (t .count) (t .devices) in
-    (every few ds ≡ true) × (c .before .list-len .result ≡ LIST-HEAD-LEN + length (joined listed ds))
+    (every few ds ≡ true) × (c .before .list-len .result ≡ LIST-HEAD-LEN + length (joined listedDevice ds))
 known c =
     let t = c .before .before .before .before .before .args .table in
     let ds = take (t .count) (t .devices) in
-    some-listed (every few ds) (length (joined listed ds)) (c .before .list-len .result) (c .before .list-len .ensures .0) (c .if2 .left)
+    some-listed (every few ds) (length (joined listedDevice ds)) (c .before .list-len .result) (c .before .list-len .ensures .0) (c .if2 .left)
 
 returns : tie.Need-returns
 returns c =
@@ -35,7 +34,7 @@ returns-2 c =
     let k = c .before in
     let t = k .before .before .before .before .args .table in
     let ds = take (t .count) (t .devices) in
-    let e = none-listed (every few ds) (length (joined listed ds)) (k .list-len .result) (k .list-len .ensures .0) (c .if2 .taken) in
+    let e = none-listed (every few ds) (length (joined listedDevice ds)) (k .list-len .result) (k .list-len .ensures .0) (c .if2 .taken) in
     let h = listable-by t (k .before .if1 .left) false e in
     (wrote-no-list t (k .before .before .before .before .args .reply .now) h, omega (arith, no-list-length t h))
 
@@ -57,7 +56,12 @@ write-list-requires : tie.Need-write-list-requires
 write-list-requires c κs =
     let m = c .before in
     let k = m .before .before in
-    record { count = k .before .before .if1 .left; bytes = m .table-interfaces .ensures; each = known k .0; room = omega (arith, known k .1, m .before .if3 .left) }
+    record {
+      count = k .before .before .if1 .left;
+      bytes = m .table-interfaces .ensures;
+      each = known k .0;
+      room = omega (arith, known k .1, m .before .if3 .left);
+    }
 
 same-length : tie.Need-same-length
 same-length c = search needs
@@ -72,7 +76,8 @@ returns-4 c =
     let h = k .before .before .if1 .left in
     let e = list-is t h (known k .0) in
     let n = list-length t h (known k .0) in (
-      wrote-over (listReply t) (s .args .reply .now) _ _ (omega (arith, n, known k .1, e3 .if3 .left)) (rw e (w .write-list .ensures .1)) (rw e (w .write-list .ensures .0)),
+      wrote-over (listReply t) (s .args .reply .now) _ _ (omega (arith, n, known k .1, e3 .if3 .left)) (rw e (w .write-list .ensures .1))
+          (rw e (w .write-list .ensures .0)),
       omega (arith, n, known k .1, k .before .list-len .ensures .1),
     )
 

@@ -1,7 +1,7 @@
 use Rattle.records.specs.Records.{Shaped}
 use native.Mathlib.Omega.{arith}
 use mathlib.Core.Path.{sym}
-use Rattle.records.proofs.Records.{unmapped}
+use Rattle.ground.proofs.Lists.{unmapped}
 use Rattle.listing.proofs.Lists.{listed-length}
 use borrow.Author.Needs.{needs}
 use Rattle.listing.proofs.listed_len.Statement.{statement}

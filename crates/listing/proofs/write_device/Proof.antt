@@ -2,12 +2,13 @@ use Prim.Native.Nat.{_≤_}
 use native.Mathlib.Omega.{arith}
 use mathlib.Core.Path.{_≡_, refl, sym}
 use lib.ListN.{length, take, length-take, length-drop}
-use Rattle.wire.specs.Fields.{joined}
-use Rattle.wire.proofs.Parts.{wrote-all, written-behind}
+use Rattle.ground.specs.Lists.{joined}
+use Rattle.ground.proofs.Parts.{wrote-all, written-behind}
 use Rattle.exports.specs.Devices.{interfacesOf}
 use Rattle.records.specs.Records.{DEVICE-LEN, Shaped, deviceRecord, interfaceRecord}
-use Rattle.listing.specs.Lists.{listed, listedSize}
-use Rattle.records.proofs.Records.{unmapped, record-length, joined-records}
+use Rattle.listing.specs.Lists.{listedDevice, listedSize}
+use Rattle.ground.proofs.Lists.{unmapped, joined-map}
+use Rattle.records.proofs.Records.{record-length}
 use Rattle.listing.proofs.Lists.{listed-length}
 use borrow.Author.Needs.{needs}
 use Rattle.listing.proofs.write_device.Statement.{statement}
@@ -36,7 +37,8 @@ part-write-interfaces-end : tie.Need-part-write-interfaces-end
 part-write-interfaces-end c = search needs
 
 write-interfaces-requires : tie.Need-write-interfaces-requires
-write-interfaces-requires c κs = let s = c .before .before .before .before .before .before .before in (s .pre .0, rw (length-take, length-drop) (omega (arith, room s)))
+write-interfaces-requires c κs =
+    let s = c .before .before .before .before .before .before .before in (s .pre .0, rw (length-take, length-drop) (omega (arith, room s)))
 
 mul-result : tie.Need-mul-result
 mul-result c = search needs
@@ -48,7 +50,7 @@ same-length : tie.Need-same-length
 same-length c = search needs
 
 returns : tie.Need-returns
-unfolding listed
+unfolding listedDevice
 returns c =
     let k2 = c .before .before in
     let k1 = k2 .before .before .before .before in
@@ -58,7 +60,8 @@ returns c =
     let R = deviceRecord d in
     let l : length R ≡ DEVICE-LEN = record-length d (shaped s) in
     let I = joined interfaceRecord (interfacesOf d) in
-    let e : joined (λ r. r) (take (d .bNumInterfaces) (s .args .records)) ≡ I = rw (s .pre .1) (joined-records interfaceRecord (d .bNumInterfaces) (d .interfaces)) in
+    let e : joined (λ r. r) (take (d .bNumInterfaces) (s .args .records)) ≡ I =
+    rw (s .pre .1) (joined-map interfaceRecord (d .bNumInterfaces) (d .interfaces)) in
     let w = k2 .write-interfaces .ensures in
     let e1 = wrote-all R D (k1 .write-record .last .0) (k1 .write-record .result) (omega (arith, room s)) (k1 .write-record .ensures) in
     let e2 = written-behind D (k1 .write-record .last .0) R I (k2 .write-interfaces .last .0) DEVICE-LEN _ refl l e1 (rw e at (w .1)) in

@@ -1,4 +1,4 @@
-use Rattle.exports.specs.Rules.{every}
+use Rattle.ground.specs.Lists.{every, joined}
 use borrow.Author.Needs.{needs}
 use borrow.Rule.Slice.PartMut.{same-len-mid}
 use Prim.Native.Nat.{ℕ, _≤_, _-_, _+_}
@@ -7,23 +7,25 @@ use mathlib.Core.Path.{_≡_, refl, sym, ap, subst, _∙_}
 use mathlib.Core.List.{List, [], _∷_, _++_, append-nil, append-assoc}
 use lib.ListN.{length, take, drop, getD, length-append, length-take, length-drop, List·getD-map}
 use lib.Seq.{length-take-le}
-use Rattle.wire.specs.Fields.{joined}
-use Rattle.wire.specs.Writing.{over}
-use Rattle.wire.proofs.Parts.{wrote-all, written-behind, over-front, front-is, over-grown, joined-more}
-use Rattle.exports.specs.Devices.{noDevice, MAX-DEVICES}
+use Rattle.ground.specs.Writing.{over}
+use Rattle.ground.proofs.Parts.{wrote-all, written-behind, over-front, front-is, over-grown}
+use Rattle.ground.proofs.Lists.{joined-more}
+use Rattle.exports.specs.Devices.{noDevice}
+use Rattle.limits.specs.Limits.{MAX-DEVICES}
 use Rattle.records.specs.Records.{recordsOf}
-use Rattle.listing.specs.Lists.{LIST-HEAD-LEN, few, listed, listHead}
+use Rattle.listing.specs.Lists.{LIST-HEAD-LEN, few, listedDevice, listHead}
 use mathlib.Core.Bool.{true, and-eq-true-iff}
 use Rattle.exports.specs.declared.device.Device.{Device}
-use Rattle.exports.proofs.Walks.{next-of}
+use Rattle.ground.proofs.Walks.{next-of}
 use Rattle.listing.proofs.Lists.{few-known, every-left}
 use Rattle.listing.proofs.write_list.Statement.{statement}
 use Rattle.listing.proofs.write_list.Tie as tie
 
 abbrev Inv-loop : tie.InvT-loop
 Inv-loop reply₀ n devices interfaces at₀ i₀ reply at i =
-    let front = take LIST-HEAD-LEN reply₀ ++ joined listed (take i devices) in
-    (i ≤ n) × (at + length (joined listed (drop i (take n devices))) ≡ LIST-HEAD-LEN + length (joined listed (take n devices))) × (length front ≡ at) × (reply ≡ over front reply₀) × (length reply ≡ length reply₀)
+    let front = take LIST-HEAD-LEN reply₀ ++ joined listedDevice (take i devices) in
+    (i ≤ n) × (at + length (joined listedDevice (drop i (take n devices))) ≡ LIST-HEAD-LEN + length (joined listedDevice (take n devices)))
+    × (length front ≡ at) × (reply ≡ over front reply₀) × (length reply ≡ length reply₀)
 
 abbrev μ-loop : tie.MeasureT-loop
 μ-loop reply₀ n devices interfaces at₀ i₀ reply at i = n - i
@@ -52,14 +54,14 @@ few-here c =
 -- what is written and what is left is the whole
 spent : (c : tie.In-loop Inv-loop μ-loop) → let l = c .before in
     let ds = take (start l .args .n) (start l .args .t2) in
-    l .loop .at + (length (listed (device l)) + length (joined listed (drop (l .loop .i + 1) ds))) ≡ LIST-HEAD-LEN + length (joined listed ds)
+    l .loop .at + (length (listedDevice (device l)) + length (joined listedDevice (drop (l .loop .i + 1) ds))) ≡ LIST-HEAD-LEN + length (joined listedDevice ds)
 spent c =
     let l = c .before in
     let ds = take (start l .args .n) (start l .args .t2) in
-    rw (turn c, length-append (listed (device l)) (joined listed (drop (l .loop .i + 1) ds))) at (l .loop .inv .1)
+    rw (turn c, length-append (listedDevice (device l)) (joined listedDevice (drop (l .loop .i + 1) ds))) at (l .loop .inv .1)
 
 -- the room that is left has room for the device
-room : (c : tie.In-loop Inv-loop μ-loop) → c .before .loop .at + length (listed (device (c .before))) ≤ length (c .before .loop .reply)
+room : (c : tie.In-loop Inv-loop μ-loop) → c .before .loop .at + length (listedDevice (device (c .before))) ≤ length (c .before .loop .reply)
 room c =
     let l = c .before in
     omega (arith, spent c, start l .pre .room, l .loop .inv .4, l .before .before .before .write .kept .0)
@@ -137,14 +139,17 @@ loop-again c =
     let d = device l in
     let w = k .write-device .ensures in
     let W = take LIST-HEAD-LEN r₀ in
-    let J = joined listed (take (l .loop .i) devices) in
-    let more : W ++ J ++ listed d ≡ W ++ joined listed (take (l .loop .i + 1) devices) = append-assoc W J (listed d) ∙ ap (λ (b : List ℕ). W ++ b) (joined-more listed devices (l .loop .i) noDevice (omega (arith, whole (start l)))) in
-    let put = written-behind r₀ (l .loop .reply) (W ++ J) (listed d) (k .write-device .last .0) (l .loop .at) _ refl (l .loop .inv .2) (l .loop .inv .3) (w .1) in (
+    let J = joined listedDevice (take (l .loop .i) devices) in
+    let more : W ++ J ++ listedDevice d ≡ W ++ joined listedDevice (take (l .loop .i + 1) devices) =
+    append-assoc W J (listedDevice d) ∙ ap (λ (b : List ℕ). W ++ b) (joined-more listedDevice devices (l .loop .i) noDevice (omega (arith, whole (start l)))) in
+    let put =
+    written-behind r₀ (l .loop .reply) (W ++ J) (listedDevice d) (k .write-device .last .0) (l .loop .at) _ refl (l .loop .inv .2) (l .loop .inv .3) (w .1) in (
       omega arith,
       omega (arith, spent t, w .0),
-      rw (← more, length-append (W ++ J) (listed d)) (omega (arith, l .loop .inv .2, w .0)),
+      rw (← more, length-append (W ++ J) (listedDevice d)) (omega (arith, l .loop .inv .2, w .0)),
       rw more at put,
-      same-len-mid (l .loop .at) (length (l .loop .reply) - l .loop .at) (l .loop .reply) (k .write-device .last .0) (k .write-device .kept .0) ∙ l .loop .inv .4,
+      same-len-mid (l .loop .at) (length (l .loop .reply) - l .loop .at) (l .loop .reply) (k .write-device .last .0) (k .write-device .kept .0)
+          ∙ l .loop .inv .4,
     )
 
 same-length : tie.Need-same-length Inv-loop μ-loop
@@ -160,13 +165,13 @@ returns c =
     let devices = s .args .t2 in
     let H = listHead (s .args .n) in
     let h : k .before .before .before .list-head .result ≡ H = k .before .before .before .list-head .ensures in
-    let J = joined listed (take (l .loop .i) devices) in
+    let J = joined listedDevice (take (l .loop .i) devices) in
     let e : l .loop .i ≡ s .args .n = omega (arith, l .loop .inv .0) in
     let w : r₀ ≡ over H D = wrote-all H D r₀ (k .write .result) (omega (arith, s .pre .room)) (rw h at (k .write .ensures)) in
     let t = front-is H D r₀ LIST-HEAD-LEN refl w in
     let o = over-grown H J D r₀ (l .loop .reply) LIST-HEAD-LEN refl w (l .loop .inv .3) in
     let n : length (H ++ J) ≡ l .loop .at = ap (λ (W : List ℕ). length (W ++ J)) (sym t) ∙ l .loop .inv .2 in
-    subst (λ (m : ℕ). let R = H ++ joined listed (take m devices) in (l .loop .at ≡ length R) × (l .loop .reply ≡ over R D)) e (sym n, o)
+    subst (λ (m : ℕ). let R = H ++ joined listedDevice (take m devices) in (l .loop .at ≡ length R) × (l .loop .reply ≡ over R D)) e (sym n, o)
 
 pub write-list-spec : {M : Type 1} → statement M
 write-list-spec =

@@ -1,4 +1,5 @@
-use Rattle.exports.specs.Devices.{MAX-DEVICES, noDevice}
+use Rattle.limits.specs.Limits.{MAX-DEVICES}
+use Rattle.exports.specs.Devices.{noDevice}
 use borrow.Author.Needs.{needs}
 use borrow.Author.Tests.{eq-eqb, ne-eqb}
 use Prim.Native.Nat.{_+_, _-_}
@@ -9,14 +10,14 @@ use mathlib.Core.Bool.{true, false}
 use mathlib.Core.List.{_∷_}
 use lib.ListN.{length, take, drop, getD}
 use Rattle.wire.specs.Codes.{BUSID-LEN}
-use Rattle.exports.specs.Rules.{same}
+use Rattle.ground.specs.Lists.{sameBytes}
 use Rattle.lookup.specs.Lookup.{findFrom, findBusid}
-use Rattle.exports.proofs.Walks.{next-of, over-of, same-next, same-over}
+use Rattle.ground.proofs.Walks.{next-of, past-of, same-next, same-past}
 use Rattle.lookup.proofs.find_busid.Statement.{statement}
 use Rattle.lookup.proofs.find_busid.Tie as tie
 
 abbrev Inv-loop : tie.InvT-loop
-Inv-loop count devices busid i₀ id j₀ i j = (i ≡ i₀) × (same id busid ≡ same (drop j id) (drop j busid))
+Inv-loop count devices busid i₀ id j₀ i j = (i ≡ i₀) × (sameBytes id busid ≡ sameBytes (drop j id) (drop j busid))
 
 abbrev μ-loop : tie.MeasureT-loop
 μ-loop count devices busid i₀ id j₀ i j = BUSID-LEN - j
@@ -34,7 +35,8 @@ size c = search needs
 at : (c : tie.After-busid-of Inv-loop μ-loop Inv-devices μ-devices) →
     let o = c .before .before .before .before in
     let a = o .before .args in
-    findBusid (a .t3) (take (a .count) (a .t1)) ≡ findFrom (o .devices .i) (a .t3) (getD (a .t1) (o .devices .i) noDevice ∷ drop (o .devices .i + 1) (take (a .count) (a .t1)))
+    findBusid (a .t3) (take (a .count) (a .t1))
+    ≡ findFrom (o .devices .i) (a .t3) (getD (a .t1) (o .devices .i) noDevice ∷ drop (o .devices .i + 1) (take (a .count) (a .t1)))
 at c =
     let o = c .before .before .before .before in
     let a = o .before .args in
@@ -47,13 +49,13 @@ returns : tie.Need-returns Inv-loop μ-loop Inv-devices μ-devices
 returns c =
     let o = c .before in
     let a = o .before .args in
-    sym (o .devices .inv ∙ over-of (findFrom (o .devices .i) (a .t3)) (a .count) (a .t1) (o .devices .i) (omega arith))
+    sym (o .devices .inv ∙ past-of (findFrom (o .devices .i) (a .t3)) (a .count) (a .t1) (o .devices .i) (omega arith))
 
 returns-2 : tie.Need-returns-2 Inv-loop μ-loop Inv-devices μ-devices
 returns-2 c =
     let o = c .before .before in
     let a = o .before .args in
-    sym (o .devices .inv ∙ over-of (findFrom (o .devices .i) (a .t3)) (a .count) (a .t1) (o .devices .i) (omega (arith, size (o .before))))
+    sym (o .devices .inv ∙ past-of (findFrom (o .devices .i) (a .t3)) (a .count) (a .t1) (o .devices .i) (omega (arith, size (o .before))))
 
 mul-d : tie.Need-mul-d Inv-loop μ-loop Inv-devices μ-devices
 mul-d c = search needs
@@ -83,7 +85,7 @@ devices-again : tie.Need-devices-again Inv-loop μ-loop Inv-devices μ-devices
 devices-again c =
     let b = c .before .before .before in
     let l = c .before .before .loop in
-    let e : same (b .busid-of .result) (b .before .before .before .before .before .args .t3) ≡ false =
+    let e : sameBytes (b .busid-of .result) (b .before .before .before .before .before .args .t3) ≡ false =
     rw (ne-eqb _ _ (c .if3 .taken)) at (l .inv .1 ∙ same-next _ _ (l .j) (search needs) (search needs)) in
     rw (l .inv .0, add-one) (rw (rw (b .busid-of .ensures) at e, add-one) at (at b))
 
@@ -102,8 +104,8 @@ returns-3 : tie.Need-returns-3 Inv-loop μ-loop Inv-devices μ-devices
 returns-3 c =
     let b = c .before .before in
     let l = c .before .loop in
-    let e : same (b .busid-of .result) (b .before .before .before .before .before .args .t3) ≡ true =
-    l .inv .1 ∙ same-over _ _ (l .j) (search needs) (search needs) in
+    let e : sameBytes (b .busid-of .result) (b .before .before .before .before .before .args .t3) ≡ true =
+    l .inv .1 ∙ same-past _ _ (l .j) (search needs) (search needs) in
     rw (l .inv .0) (sym (rw (rw (b .busid-of .ensures) at e) at (at b)))
 
 pub find-busid-spec : {M : Type 1} → statement M

@@ -1,14 +1,16 @@
-use Rattle.exports.specs.Devices.{MAX-DEVICES, noDevice}
+use Rattle.limits.specs.Limits.{MAX-DEVICES}
+use Rattle.exports.specs.Devices.{noDevice}
 use borrow.Author.Needs.{needs}
 use Prim.Native.Nat.{_+_, _-_}
 use native.Mathlib.Omega.{arith}
 use mathlib.Core.Path.{_≡_, refl, sym, _∙_}
 use mathlib.Core.Bool.{true, false}
 use lib.ListN.{length, take, drop, getD}
-use Rattle.exports.specs.Rules.{every, apart}
+use Rattle.ground.specs.Lists.{every}
+use Rattle.exports.specs.Rules.{apart}
 use Rattle.tables.specs.Tables.{distinct}
-use Rattle.exports.proofs.Walks.{next-of, over-of}
-use Rattle.exports.proofs.Tests.{said-no, said-yes}
+use Rattle.ground.proofs.Walks.{next-of, past-of}
+use Rattle.ground.proofs.Tests.{said-no, said-yes}
 use Rattle.tables.proofs.all_distinct.Statement.{statement}
 use Rattle.tables.proofs.all_distinct.Tie as tie
 
@@ -61,7 +63,7 @@ returns-2 : tie.Need-returns-2 Inv-loop μ-loop
 returns-2 c =
     let l = c .before in
     let a = l .before .args in
-    sym (l .loop .inv ∙ over-of distinct (a .n) (a .t1) (l .loop .i) (omega arith))
+    sym (l .loop .inv ∙ past-of distinct (a .n) (a .t1) (l .loop .i) (omega arith))
 
 pub all-distinct-spec : {M : Type 1} → statement M
 all-distinct-spec =

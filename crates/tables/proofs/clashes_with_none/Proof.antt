@@ -1,12 +1,14 @@
-use Rattle.exports.specs.Devices.{MAX-DEVICES, noDevice}
+use Rattle.limits.specs.Limits.{MAX-DEVICES}
+use Rattle.exports.specs.Devices.{noDevice}
 use borrow.Author.Needs.{needs}
 use Prim.Native.Nat.{_-_}
 use native.Mathlib.Omega.{arith}
 use mathlib.Core.Path.{_≡_, refl, sym, _∙_}
 use mathlib.Core.Bool.{true, false}
 use lib.ListN.{length, take, drop, getD}
-use Rattle.exports.specs.Rules.{every, apart, clash}
-use Rattle.exports.proofs.Walks.{next-of, over-of}
+use Rattle.ground.specs.Lists.{every}
+use Rattle.exports.specs.Rules.{apart, clash}
+use Rattle.ground.proofs.Walks.{next-of, past-of}
 use Rattle.tables.proofs.clashes_with_none.Statement.{statement}
 use Rattle.tables.proofs.clashes_with_none.Tie as tie
 
@@ -57,7 +59,7 @@ returns-2 : tie.Need-returns-2 Inv-loop μ-loop
 returns-2 c =
     let l = c .before in
     let a = l .before .args in
-    sym (l .loop .inv ∙ over-of (every (apart (a .d))) (a .n) (a .t2) (l .loop .j) (omega arith))
+    sym (l .loop .inv ∙ past-of (every (apart (a .d))) (a .n) (a .t2) (l .loop .j) (omega arith))
 
 pub clashes-with-none-spec : {M : Type 1} → statement M
 clashes-with-none-spec =

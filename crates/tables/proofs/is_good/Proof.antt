@@ -1,7 +1,7 @@
 use borrow.Author.Tests.{le-leb, lt-leb}
 use borrow.Author.Needs.{needs}
 use Rattle.tables.specs.Tables.{goodTable}
-use Rattle.exports.proofs.Tests.{said-no, said-yes}
+use Rattle.ground.proofs.Tests.{said-no, said-yes}
 use Rattle.tables.proofs.is_good.Statement.{statement}
 use Rattle.tables.proofs.is_good.Tie as tie
 

@@ -42,7 +42,8 @@ returns-2 c =
     let k = c .before .before in
     let a = k .before .before in
     let s = a .before .before .before .before .before in
-    rw (hex-some (s .args .bytes .now) (a .before .before .if1 .left)) (rw (a .added2 .ensures .text, append-assoc (textOf (s .args .t)) (ascii " ") (hexOf (s .args .bytes .now))) at (k .put-bytes .ensures))
+    rw (hex-some (s .args .bytes .now) (a .before .before .if1 .left))
+    (rw (a .added2 .ensures .text, append-assoc (textOf (s .args .t)) (ascii " ") (hexOf (s .args .bytes .now))) at (k .put-bytes .ensures))
 
 pub put-hex-spec : {M : Type 1} → statement M
 put-hex-spec =

@@ -19,7 +19,12 @@ with-four-requires-2 : tie.Need-with-four-requires-2
 with-four-requires-2 c κs = search needs
 
 returns : tie.Need-returns
-returns c = record { text = rw (c .with-four2 .ensures .text, c .before .with-four .ensures .text, c .before .before .with-number .ensures .text, c .before .before .before .begun .ensures .text); size = omega arith }
+returns c =
+    let first = c .before .before in
+    record {
+      text = rw (c .with-four2 .ensures .text, c .before .with-four .ensures .text, first .with-number .ensures .text, first .before .begun .ensures .text);
+      size = omega arith;
+    }
 
 pub record-text-spec : {M : Type 1} → statement M
 record-text-spec =

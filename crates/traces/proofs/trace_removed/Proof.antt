@@ -36,7 +36,8 @@ returns : tie.Need-returns
 returns c =
     let k = c .before .before in
     let t = k .before .before in
-    rw (t .before .before .before .before .before .r .given .1) (rw (t .ended .ensures .text, t .before .with-number .ensures .text, t .before .before .begun .ensures .text) at (k .put .ensures))
+    rw (t .before .before .before .before .before .r .given .1)
+    (rw (t .ended .ensures .text, t .before .with-number .ensures .text, t .before .before .begun .ensures .text) at (k .put .ensures))
 
 same-length-2 : tie.Need-same-length-2
 same-length-2 c = search needs

@@ -16,7 +16,18 @@ with-number-requires-4 : tie.Need-with-number-requires-4
 with-number-requires-4 c κs = search needs
 
 returns : tie.Need-returns
-returns c = record { text = rw (c .with-number4 .ensures .text, c .before .with-number3 .ensures .text, c .before .before .with-number2 .ensures .text, c .before .before .before .with-number .ensures .text); size = omega arith }
+returns c =
+    let second = c .before .before in
+    record {
+      text =
+          rw (
+            c .with-number4 .ensures .text,
+            c .before .with-number3 .ensures .text,
+            second .with-number2 .ensures .text,
+            second .before .with-number .ensures .text,
+          );
+      size = omega arith;
+    }
 
 pub with-four-spec : {M : Type 1} → statement M
 with-four-spec =

@@ -37,7 +37,8 @@ loop-again c =
     let a = l .before .args in
     let e = l .loop .inv .1 in
     let h : a .at + l .loop .i < length (a .buf .now) = omega (arith, l .before .pre, c .before .loop-test .taken) in
-    (omega arith, length-set (l .loop .buf) (l .loop .i) (getD (l .loop .buf) (a .at + l .loop .i) 0) ∙ e, move-more (a .buf .now) (l .loop .buf) (a .at) (l .loop .i) 0 (l .loop .inv .2) h (omega (arith, e, h)))
+    let m = move-more (a .buf .now) (l .loop .buf) (a .at) (l .loop .i) 0 (l .loop .inv .2) h (omega (arith, e, h)) in
+    (omega arith, length-set (l .loop .buf) (l .loop .i) (getD (l .loop .buf) (a .at + l .loop .i) 0) ∙ e, m)
 
 same-length : tie.Need-same-length Inv-loop μ-loop
 same-length c = search needs

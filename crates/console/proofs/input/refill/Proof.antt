@@ -42,7 +42,8 @@ returns-2 c =
     let bytes = windowOf w (s .args .buf .now) in
     let n = length-take (w .end - w .at) (drop (w .at) (s .args .buf .now)) in
     let d = length-drop (w .at) (s .args .buf .now) in
-    as-it-was w (s .args .buf .now) (s .pre .0) (inr (enough bytes (omega (arith, c .before .wanted .ensures, c .if2 .taken, n, d, s .pre .0 .0, s .pre .0 .1))))
+    as-it-was w (s .args .buf .now) (s .pre .0)
+    (inr (enough bytes (omega (arith, c .before .wanted .ensures, c .if2 .taken, n, d, s .pre .0 .0, s .pre .0 .1))))
 
 move-front-requires : tie.Need-move-front-requires
 move-front-requires c κs = search needs

@@ -6,7 +6,7 @@ use mathlib.Core.Path.{_≡_, _∙_}
 use mathlib.Core.List.{List}
 use lib.ListN.{length, drop}
 use Rattle.exports.specs.Rules.{firstZero}
-use Rattle.exports.proofs.Walks.{next, over}
+use Rattle.ground.proofs.Walks.{next, past}
 use Rattle.exports.proofs.rules.first_zero.Statement.{statement}
 use Rattle.exports.proofs.rules.first_zero.Tie as tie
 
@@ -47,7 +47,7 @@ returns-2 c =
     let l = c .before in
     let a = l .before .args .bytes .now in
     let i = l .loop .i in
-    omega (arith, l .loop .inv ∙ over (λ (r : List ℕ). i + firstZero r) a i (search needs))
+    omega (arith, l .loop .inv ∙ past (λ (r : List ℕ). i + firstZero r) a i (search needs))
 
 pub first-zero-spec : {M : Type 1} → statement M
 first-zero-spec =

@@ -1,6 +1,6 @@
 use borrow.Author.Needs.{needs}
 use Rattle.exports.specs.Rules.{goodDevice}
-use Rattle.exports.proofs.Tests.{said-no, said-yes}
+use Rattle.ground.proofs.Tests.{said-no, said-yes}
 use Rattle.exports.proofs.rules.good_device.Statement.{statement}
 use Rattle.exports.proofs.rules.good_device.Tie as tie
 
@@ -34,7 +34,11 @@ unfolding goodDevice
 returns-3 c =
     let b = c .before .before in
     let p = b .before .before .before in
-    rw (said-yes (p .before .is-text .ensures) (p .if1 .left), said-yes (b .before .is-text2 .ensures) (b .if2 .left), said-no (c .before .in-range .ensures) (c .if3 .taken))
+    rw (
+      said-yes (p .before .is-text .ensures) (p .if1 .left),
+      said-yes (b .before .is-text2 .ensures) (b .if2 .left),
+      said-no (c .before .in-range .ensures) (c .if3 .taken),
+    )
 
 in-range-requires-2 : tie.Need-in-range-requires-2
 in-range-requires-2 c κs = search needs
@@ -45,7 +49,12 @@ returns-4 c =
     let n = c .before .before in
     let b = n .before .before in
     let p = b .before .before .before in
-    rw (said-yes (p .before .is-text .ensures) (p .if1 .left), said-yes (b .before .is-text2 .ensures) (b .if2 .left), said-yes (n .before .in-range .ensures) (n .if3 .left), said-no (c .before .in-range2 .ensures) (c .if4 .taken))
+    rw (
+      said-yes (p .before .is-text .ensures) (p .if1 .left),
+      said-yes (b .before .is-text2 .ensures) (b .if2 .left),
+      said-yes (n .before .in-range .ensures) (n .if3 .left),
+      said-no (c .before .in-range2 .ensures) (c .if4 .taken),
+    )
 
 cast-result : tie.Need-cast-result
 cast-result c = search needs
@@ -57,7 +66,12 @@ returns-5 c =
     let n = m .before .before in
     let b = n .before .before in
     let p = b .before .before .before in
-    rw (said-yes (p .before .is-text .ensures) (p .if1 .left), said-yes (b .before .is-text2 .ensures) (b .if2 .left), said-yes (n .before .in-range .ensures) (n .if3 .left), said-yes (m .before .in-range2 .ensures) (m .if4 .left))
+    rw (
+      said-yes (p .before .is-text .ensures) (p .if1 .left),
+      said-yes (b .before .is-text2 .ensures) (b .if2 .left),
+      said-yes (n .before .in-range .ensures) (n .if3 .left),
+      said-yes (m .before .in-range2 .ensures) (m .if4 .left),
+    )
 
 pub good-device-spec : {M : Type 1} → statement M
 good-device-spec =

@@ -4,13 +4,13 @@ use Prim.Native.Nat.{_-_}
 use mathlib.Core.Path.{_≡_, refl, sym, _∙_}
 use lib.ListN.{drop}
 use Rattle.wire.specs.Codes.{BUSID-LEN}
-use Rattle.exports.specs.Rules.{same}
-use Rattle.exports.proofs.Walks.{same-next, same-over}
+use Rattle.ground.specs.Lists.{sameBytes}
+use Rattle.ground.proofs.Walks.{same-next, same-past}
 use Rattle.exports.proofs.rules.same_busid.Statement.{statement}
 use Rattle.exports.proofs.rules.same_busid.Tie as tie
 
 abbrev Inv-loop : tie.InvT-loop
-Inv-loop a b k₀ k = same a b ≡ same (drop k a) (drop k b)
+Inv-loop a b k₀ k = sameBytes a b ≡ sameBytes (drop k a) (drop k b)
 
 abbrev μ-loop : tie.MeasureT-loop
 μ-loop a b k₀ k = BUSID-LEN - k
@@ -46,7 +46,7 @@ returns-2 : tie.Need-returns-2 Inv-loop μ-loop
 returns-2 c =
     let l = c .before in
     let a = l .before .args in
-    sym (l .loop .inv ∙ same-over (a .t1) (a .t2) (l .loop .k) (search needs) (search needs))
+    sym (l .loop .inv ∙ same-past (a .t1) (a .t2) (l .loop .k) (search needs) (search needs))
 
 pub same-busid-spec : {M : Type 1} → statement M
 same-busid-spec =

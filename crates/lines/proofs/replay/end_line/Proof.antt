@@ -36,7 +36,19 @@ returns : tie.Need-returns
 returns c =
     let k = c .before .before in
     let t = k .before .before in
-    rw (t .ended .ensures .text, t .before .with-number5 .ensures .text, t .before .before .with-number4 .ensures .text, t .before .before .before .with-number3 .ensures .text, t .before .before .before .before .with-number2 .ensures .text, t .before .before .before .before .before .with-number .ensures .text, t .before .before .before .before .before .before .begun .ensures .text) at (k .put .ensures)
+    let fourth = t .before .before in
+    let second = fourth .before .before in
+    let begun = second .before .before in
+    rw (
+      t .ended .ensures .text,
+      t .before .with-number5 .ensures .text,
+      fourth .with-number4 .ensures .text,
+      fourth .before .with-number3 .ensures .text,
+      second .with-number2 .ensures .text,
+      second .before .with-number .ensures .text,
+      begun .begun .ensures .text,
+    )
+    at (k .put .ensures)
 
 pub end-line-spec : {M : Type 1} → statement M
 end-line-spec =

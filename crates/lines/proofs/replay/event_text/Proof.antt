@@ -1,6 +1,5 @@
 use native.Mathlib.Omega.{arith}
 use Rattle.numerals.proofs.Texts.{wider}
-use Rattle.lines.proofs.Lines.{unlink-lines}
 use borrow.Author.Needs.{needs}
 use Rattle.lines.proofs.replay.event_text.Statement.{statement}
 use Rattle.lines.proofs.replay.event_text.Tie as tie
@@ -99,10 +98,13 @@ returns-5 : tie.Need-returns-5
 returns-5 c = λ setup. rw (c .before .before .before .event3 .given .1) (wider (omega arith) (c .status-line .ensures))
 
 returns-6 : tie.Need-returns-6
-returns-6 c = λ setup. rw (c .before .before .before .event4 .given .1, unlink-lines) (wider (omega arith) (c .status-line2 .ensures))
+returns-6 c = λ setup. rw (c .before .before .before .event4 .given .1) (wider (omega arith) (c .status-line2 .ensures))
 
 returns-7 : tie.Need-returns-7
-returns-7 c = λ setup. rw (c .before .before .before .before .event5 .given .1) (rw (c .before .number-line2 .ensures .text) at (c .with-dropped .ensures))
+returns-7 c =
+    λ setup.
+    rw (c .before .before .before .before .before .event5 .given .1)
+    (rw (c .before .number-line2 .ensures .text) at (c .with-dropped .ensures))
 
 returns-8 : tie.Need-returns-8
 returns-8 c = λ setup. rw (c .before .before .before .event6 .given .1) (wider (omega arith) (c .number-line3 .ensures))

@@ -16,7 +16,7 @@ returns : tie.Need-returns
 returns c =
     let k = c .before .before in
     let t = k .before .before in
-    rw (t .event-text .ensures (t .before .before .before .args .a .setup) .text) at (k .put .ensures)
+    rw (t .event-text .ensures (t .before .before .args .a .setup) .text) at (k .put .ensures)
 
 pub feed-lines-spec : {M : Type 1} → statement M
 feed-lines-spec = tie.close (tie.spec event-text-requires put-requires same-length returns)

@@ -22,7 +22,21 @@ ended-requires : tie.Need-ended-requires
 ended-requires c κs = search needs
 
 returns : tie.Need-returns
-returns c = record { text = rw (c .ended .ensures .text, c .before .with-number2 .ensures .text, c .before .before .with-status .ensures .text, c .before .before .before .with-number .ensures .text, c .before .before .before .before .begun .ensures .text); size = omega arith }
+returns c =
+    let third = c .before in
+    let second = third .before in
+    let first = second .before in
+    record {
+      text =
+          rw (
+            c .ended .ensures .text,
+            third .with-number2 .ensures .text,
+            second .with-status .ensures .text,
+            first .with-number .ensures .text,
+            first .before .begun .ensures .text,
+          );
+      size = omega arith;
+    }
 
 pub return-line-spec : {M : Type 1} → statement M
 return-line-spec =

@@ -19,7 +19,14 @@ ended-requires : tie.Need-ended-requires
 ended-requires c κs = search needs
 
 returns : tie.Need-returns
-returns c = record { text = rw (c .ended .ensures .text, c .before .with-number2 .ensures .text, c .before .before .with-number .ensures .text, c .before .before .before .begun .ensures .text); size = omega arith }
+returns c =
+    let second = c .before in
+    let first = second .before in
+    record {
+      text =
+          rw (c .ended .ensures .text, second .with-number2 .ensures .text, first .with-number .ensures .text, first .before .begun .ensures .text);
+      size = omega arith;
+    }
 
 pub submit-line-spec : {M : Type 1} → statement M
 submit-line-spec =

@@ -22,7 +22,12 @@ ended-requires c κs = search needs
 returns : tie.Need-returns
 returns c =
     let s = c .before .before .before .before .args in
-    record { text = rw (c .ended .ensures .text, c .before .with-number .ensures .text, c .before .before .added .ensures .text) (line-behind (textOf (s .t)) (ascii "dropped") (decimal (s .ticket) ∷ [])); size = omega arith }
+    record {
+      text =
+          rw (c .ended .ensures .text, c .before .with-number .ensures .text, c .before .before .added .ensures .text)
+          (line-behind (textOf (s .t)) (ascii "dropped") (decimal (s .ticket) ∷ []));
+      size = omega arith;
+    }
 
 pub with-drop-spec : {M : Type 1} → statement M
 with-drop-spec =

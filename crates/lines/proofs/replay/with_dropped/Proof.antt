@@ -2,7 +2,7 @@ use native.Mathlib.Omega.{arith}
 use mathlib.Core.Path.{_≡_, sym, _∙_}
 use lib.ListN.{length, take}
 use lib.Seq.{take-all}
-use Rattle.pending.specs.Pending.{MAX-PENDING}
+use Rattle.limits.specs.Limits.{MAX-PENDING}
 use borrow.Author.Needs.{needs}
 use Rattle.lines.proofs.replay.with_dropped.Statement.{statement}
 use Rattle.lines.proofs.replay.with_dropped.Tie as tie
@@ -15,9 +15,10 @@ with-drops-requires c κs = search needs
 
 returns : tie.Need-returns
 returns c =
-    let a = c .before .before .before .args in
-    let l : length (a .dropped .tickets) ≡ MAX-PENDING = whole (c .before .before .before) in
-    let e : take (a .dropped .count) (a .dropped .tickets) ≡ take MAX-PENDING (a .dropped .tickets) = take-all (a .dropped .count) (a .dropped .tickets) (omega arith) ∙ sym (take-all MAX-PENDING (a .dropped .tickets) (omega arith)) in
+    let n = c .before .before .before .args .dropped .count in
+    let ts = c .before .before .before .args .dropped .tickets in
+    let l : length ts ≡ MAX-PENDING = whole (c .before .before .before) in
+    let e : take n ts ≡ take MAX-PENDING ts = take-all n ts (omega arith) ∙ sym (take-all MAX-PENDING ts (omega arith)) in
     rw e (c .with-drops .ensures)
 
 with-drops-requires-2 : tie.Need-with-drops-requires-2

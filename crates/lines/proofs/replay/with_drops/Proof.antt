@@ -4,17 +4,16 @@ use native.Mathlib.Omega.{arith}
 use mathlib.Core.Path.{_≡_, sym}
 use mathlib.Core.List.{_++_, append-nil}
 use lib.ListN.{length, take, getD}
-use Rattle.wire.specs.Fields.{joined}
-use Rattle.wire.proofs.Parts.{joined-more}
-use Rattle.pending.specs.Pending.{MAX-PENDING}
-use Rattle.numerals.specs.Texts.{LINE-LEN, DROPPED-LEN, textOf, Holds}
-use Rattle.lines.specs.Lines.{dropped}
-use Rattle.numerals.proofs.Texts.{added-twice}
+use Rattle.ground.specs.Lists.{joined}
+use Rattle.ground.proofs.Lists.{joined-more, added-twice}
+use Rattle.limits.specs.Limits.{MAX-PENDING}
+use Rattle.numerals.specs.Texts.{LINE-LEN, DROPPED-LEN, textOf, TextHolds}
+use Rattle.lines.specs.Lines.{droppedLine}
 use Rattle.lines.proofs.replay.with_drops.Statement.{statement}
 use Rattle.lines.proofs.replay.with_drops.Tie as tie
 
 abbrev Inv-loop : tie.InvT-loop
-Inv-loop n tickets text₀ i₀ text i = (i ≤ n) × Holds text (textOf text₀ ++ joined dropped (take i tickets)) (LINE-LEN + i * DROPPED-LEN)
+Inv-loop n tickets text₀ i₀ text i = (i ≤ n) × TextHolds text (textOf text₀ ++ joined droppedLine (take i tickets)) (LINE-LEN + i * DROPPED-LEN)
 
 abbrev μ-loop : tie.MeasureT-loop
 μ-loop n tickets text₀ i₀ text i = n - i
@@ -42,11 +41,11 @@ loop-again c =
     let l = c .before .before .loop in
     let a = c .before .before .before .args in
     let T = textOf (a .t) in
-    let J = joined dropped (take (l .i) (a .t2)) in
+    let J = joined droppedLine (take (l .i) (a .t2)) in
     let d = getD (a .t2) (l .i) 0 in
     let n : length (a .t2) ≡ MAX-PENDING = search needs in
-    let more : J ++ dropped d ≡ joined dropped (take (l .i + 1) (a .t2)) = joined-more dropped (a .t2) (l .i) 0 (omega arith) in
-    (omega arith, record { text = rw (← more) (added-twice T J (dropped d) (l .inv .1 .text) (c .with-drop .ensures .text)); size = omega arith })
+    let more : J ++ droppedLine d ≡ joined droppedLine (take (l .i + 1) (a .t2)) = joined-more droppedLine (a .t2) (l .i) 0 (omega arith) in
+    (omega arith, record { text = rw (← more) (added-twice T J (droppedLine d) (l .inv .1 .text) (c .with-drop .ensures .text)); size = omega arith })
 
 returns : tie.Need-returns Inv-loop μ-loop
 returns c =

@@ -6,15 +6,18 @@ use mathlib.Core.Path.{_≡_, refl, _∙_}
 use mathlib.Core.List.{List, [], _++_}
 use lib.ListN.{length, take, length-append}
 use borrow.Rule.Slice.PartMut.{same-len-mid}
-use Rattle.wire.proofs.Parts.{written-next, joined-more}
-use Rattle.wire.specs.Fields.{joined}
-use Rattle.wire.specs.Writing.{over}
-use Rattle.exports.specs.Devices.{MAX-INTERFACES}
+use Rattle.ground.proofs.Parts.{written-next}
+use Rattle.ground.proofs.Lists.{joined-more}
+use Rattle.ground.specs.Lists.{joined}
+use Rattle.ground.specs.Writing.{over}
+use Rattle.limits.specs.Limits.{MAX-INTERFACES}
 use Rattle.listing.proofs.interfaces.write_interfaces.Statement.{statement}
 use Rattle.listing.proofs.interfaces.write_interfaces.Tie as tie
 
 abbrev Inv-loop : tie.InvT-loop
-Inv-loop out₀ records n i₀ out i = (i ≤ n) × (length (joined (λ r. r) (take i records)) ≡ i * INTERFACE-LEN) × (out ≡ over (joined (λ r. r) (take i records)) out₀) × (length out ≡ length out₀)
+Inv-loop out₀ records n i₀ out i =
+    (i ≤ n) × (length (joined (λ r. r) (take i records)) ≡ i * INTERFACE-LEN) × (out ≡ over (joined (λ r. r) (take i records)) out₀)
+    × (length out ≡ length out₀)
 
 abbrev μ-loop : tie.MeasureT-loop
 μ-loop out₀ records n i₀ out i = n - i
@@ -62,7 +65,9 @@ loop-again c =
     let n : length records ≡ MAX-INTERFACES = search needs in
     let W = joined (λ (r : List ℕ). r) (take i records) in
     let more : W ++ B ≡ joined (λ r. r) (take (i + 1) records) = rw (a .interface-at .ensures) (joined-more (λ r. r) records i [] (omega arith)) in
-    let whole = written-next (s .args .out .now) (l .out) W B (k .write .last .0) (i * INTERFACE-LEN) _ (k .write .result) refl (l .inv .1) (l .inv .2) (omega arith) (k .write .ensures) in (
+    let whole =
+    written-next (s .args .out .now) (l .out) W B (k .write .last .0) (i * INTERFACE-LEN) _ (k .write .result) refl (l .inv .1) (l .inv .2) (omega arith)
+    (k .write .ensures) in (
       omega arith,
       rw (← more, length-append W B) (omega (arith, l .inv .1)),
       rw more at whole,

@@ -2,7 +2,7 @@ use native.Mathlib.Omega.{arith}
 use mathlib.Core.Path.{_≡_}
 use lib.ListN.{length}
 use Rattle.numerals.specs.Digits.{MAX-DIGITS}
-use Rattle.numerals.proofs.Texts.{part-end}
+use Rattle.ground.proofs.Lists.{part-end}
 use borrow.Author.Needs.{needs}
 use Rattle.numerals.proofs.number.decimal.Statement.{statement}
 use Rattle.numerals.proofs.number.decimal.Tie as tie

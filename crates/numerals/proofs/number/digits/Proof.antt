@@ -13,7 +13,8 @@ two : 2 ≤ BASE
 two = omega arith
 
 abbrev Inv-loop : tie.InvT-loop
-Inv-loop n bytes₀ from₀ rest₀ bytes from rest = (decimal rest ++ drop from bytes ≡ decimal n) × (length bytes ≡ MAX-DIGITS) × (length (decimal rest) ≤ from) × (from ≤ MAX-DIGITS)
+Inv-loop n bytes₀ from₀ rest₀ bytes from rest =
+    (decimal rest ++ drop from bytes ≡ decimal n) × (length bytes ≡ MAX-DIGITS) × (length (decimal rest) ≤ from) × (from ≤ MAX-DIGITS)
 
 abbrev μ-loop : tie.MeasureT-loop
 μ-loop n bytes₀ from₀ rest₀ bytes from rest = rest

@@ -2,7 +2,7 @@ use Prim.Native.Nat.{_*_}
 use native.Mathlib.Omega.{arith}
 use mathlib.Core.Path.{sym}
 use lib.ListN.{length}
-use Rattle.wire.proofs.Parts.{wrote-none, wrote-over}
+use Rattle.ground.proofs.Parts.{wrote-none, wrote-over}
 use Rattle.numerals.specs.Digits.{hexOf}
 use Rattle.numerals.proofs.Texts.{hex-length}
 use borrow.Author.Needs.{needs}
@@ -27,7 +27,8 @@ returns-2 : tie.Need-returns-2
 returns-2 c =
     let k = c .before .before in
     let a = k .before .before .before .before .before .args in
-    wrote-over (hexOf (a .bytes .now)) (a .out .now) (k .write-hex .last .1 .0) (length (a .bytes .now) * 2) (omega (arith, hex-length (a .bytes .now))) (k .write-hex .ensures) (sym (hex-length (a .bytes .now)))
+    wrote-over (hexOf (a .bytes .now)) (a .out .now) (k .write-hex .last .1 .0) (length (a .bytes .now) * 2) (omega (arith, hex-length (a .bytes .now)))
+    (k .write-hex .ensures) (sym (hex-length (a .bytes .now)))
 
 pub hex-spec : {M : Type 1} → statement M
 hex-spec = tie.close (tie.spec returns write-hex-requires mul-result same-length returns-2)

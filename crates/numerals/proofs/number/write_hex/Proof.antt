@@ -6,8 +6,9 @@ use mathlib.Core.Path.{_≡_, refl, ap, _∙_}
 use mathlib.Core.List.{_++_}
 use lib.ListN.{length, take, getD}
 use lib.Seq.{take-all, length-take-le}
-use Rattle.wire.specs.Writing.{over}
-use Rattle.wire.proofs.Parts.{written-next, joined-more}
+use Rattle.ground.specs.Writing.{over}
+use Rattle.ground.proofs.Parts.{written-next}
+use Rattle.ground.proofs.Lists.{joined-more}
 use Rattle.numerals.specs.Digits.{hexByte, hexOf}
 use Rattle.numerals.proofs.Texts.{hex-length}
 use Rattle.numerals.proofs.number.write_hex.Statement.{statement}
@@ -63,7 +64,9 @@ loop-again c =
     let B = hexByte (getD bytes (l .i) 0) in
     let n : length W ≡ l .i * 2 = hex-length (take (l .i) bytes) ∙ ap (λ (m : ℕ). m * 2) (length-take-le (l .i) bytes (l .inv .0)) in
     let more : W ++ B ≡ hexOf (take (l .i + 1) bytes) = joined-more hexByte bytes (l .i) 0 (omega arith) in
-    let put = written-next (s .args .out .now) (l .out) W B (k .write .last .0) (l .i * 2) _ (k .write .result) refl n (l .inv .1) (omega (arith, s .pre)) (rw (a .hex-pair .ensures) at (k .write .ensures)) in (
+    let put =
+    written-next (s .args .out .now) (l .out) W B (k .write .last .0) (l .i * 2) _ (k .write .result) refl n (l .inv .1) (omega (arith, s .pre))
+    (rw (a .hex-pair .ensures) at (k .write .ensures)) in (
       omega arith,
       rw more at put,
       same-len-mid (l .i * 2) (length (l .out) - l .i * 2) (l .out) (k .write .last .0) (k .write .kept .0) ∙ l .inv .2,

@@ -2,7 +2,7 @@ use native.Mathlib.Omega.{arith}
 use mathlib.Core.Path.{_≡_}
 use lib.ListN.{length}
 use Rattle.numerals.specs.Texts.{TEXT-LEN, textOf}
-use Rattle.wire.proofs.Parts.{filled-front}
+use Rattle.ground.proofs.Parts.{filled-front}
 use borrow.Author.Needs.{needs}
 use Rattle.numerals.proofs.text.added.Statement.{statement}
 use Rattle.numerals.proofs.text.added.Tie as tie

@@ -4,7 +4,7 @@ use native.Mathlib.Omega.{arith}
 use mathlib.Core.Path.{_≡_, refl, _∙_}
 use mathlib.Core.List.{List, _++_}
 use lib.ListN.{length, take, drop, length-append, length-take, length-drop}
-use Rattle.wire.proofs.Parts.{wrote-none, wrote-all, wrote-count, wrote-over, written-next}
+use Rattle.ground.proofs.Parts.{wrote-none, wrote-all, wrote-count, wrote-over, written-next}
 use Rattle.numerals.specs.Digits.{ascii, hexOf}
 use Rattle.numerals.specs.Texts.{textOf}
 use Rattle.numerals.proofs.Texts.{text-length, hex-length}
@@ -86,7 +86,8 @@ fits c = room (c .before .before .before .before .before .before)
 counted : (c : tie.After-hex) → c .hex .result ≡ length (start c .args .bytes .now) * 2
 counted c =
     let bytes = start c .args .bytes .now in
-    wrote-count (hexOf bytes) _ _ (c .hex .result) (simp (length-take, length-drop) (omega (arith, hex-length bytes, fits c, texted-size c))) (c .hex .ensures) ∙ hex-length bytes
+    wrote-count (hexOf bytes) _ _ (c .hex .result) (simp (length-take, length-drop) (omega (arith, hex-length bytes, fits c, texted-size c)))
+    (c .hex .ensures) ∙ hex-length bytes
 
 add-end : tie.Need-add-end
 add-end c = let h = c .before .before in omega (arith, counted h, fits h)
@@ -122,8 +123,12 @@ returns-3 c =
     let H = hexOf (s .args .bytes .now) in
     let p = h .before .before .before .before in
     let e1 = wrote-all T D (texted h) (p .put .result) (omega (arith, text-size s, fits h)) (p .put .ensures) in
-    let e2 = written-next D (texted h) T H (h .hex .last .1 .0) (s .args .t .len) _ (h .hex .result) refl (text-size s) e1 (omega (arith, hex-length (s .args .bytes .now), fits h, texted-size h)) (h .hex .ensures) in
-    let e3 = written-next D (hexed h) (T ++ H) (ascii "\n") (k .write .last .0) (s .args .t .len + h .hex .result) _ (k .write .result) refl (front-size s ∙ omega (arith, counted h)) e2 (omega (arith, counted h, fits h, hexed-size h)) (k .write .ensures) in
+    let e2 =
+    written-next D (texted h) T H (h .hex .last .1 .0) (s .args .t .len) _ (h .hex .result) refl (text-size s) e1
+    (omega (arith, hex-length (s .args .bytes .now), fits h, texted-size h)) (h .hex .ensures) in
+    let e3 =
+    written-next D (hexed h) (T ++ H) (ascii "\n") (k .write .last .0) (s .args .t .len + h .hex .result) _ (k .write .result) refl
+    (front-size s ∙ omega (arith, counted h)) e2 (omega (arith, counted h, fits h, hexed-size h)) (k .write .ensures) in
     wrote-over (whole s) D _ (s .args .t .len + h .hex .result + 1) (omega (arith, size s, fits h)) e3 (omega (arith, size s, counted h))
 
 pub put-bytes-spec : {M : Type 1} → statement M

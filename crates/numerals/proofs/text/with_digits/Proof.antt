@@ -3,7 +3,7 @@ use mathlib.Core.Path.{_≡_}
 use lib.ListN.{length}
 use Rattle.numerals.specs.Digits.{BASE, MAX-DIGITS}
 use Rattle.numerals.proofs.Digits.{numeral-most}
-use Rattle.numerals.proofs.Texts.{part-end}
+use Rattle.ground.proofs.Lists.{part-end}
 use borrow.Author.Needs.{needs}
 use Rattle.numerals.proofs.text.with_digits.Statement.{statement}
 use Rattle.numerals.proofs.text.with_digits.Tie as tie

@@ -1,7 +1,7 @@
 use native.Mathlib.Omega.{arith}
 use Rattle.numerals.specs.Digits.{ascii, decimal}
 use Rattle.numerals.specs.Texts.{textOf}
-use Rattle.numerals.proofs.Texts.{added-twice}
+use Rattle.ground.proofs.Lists.{added-twice}
 use borrow.Author.Needs.{needs}
 use Rattle.numerals.proofs.text.with_number.Statement.{statement}
 use Rattle.numerals.proofs.text.with_number.Tie as tie

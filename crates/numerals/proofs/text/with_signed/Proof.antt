@@ -3,7 +3,8 @@ use mathlib.Core.Path.{sym, _∙_}
 use Rattle.wire.specs.Status.{signedOf}
 use Rattle.numerals.specs.Digits.{ascii, decimal}
 use Rattle.numerals.specs.Texts.{textOf}
-use Rattle.numerals.proofs.Texts.{added-twice, wider, signed-negative, signed-other}
+use Rattle.ground.proofs.Lists.{added-twice}
+use Rattle.numerals.proofs.Texts.{wider, signed-negative, signed-other}
 use borrow.Author.Needs.{needs}
 use Rattle.numerals.proofs.text.with_signed.Statement.{statement}
 use Rattle.numerals.proofs.text.with_signed.Tie as tie

@@ -1,7 +1,7 @@
 use native.Mathlib.Omega.{arith}
 use Rattle.numerals.specs.Digits.{ascii, statusText}
 use Rattle.numerals.specs.Texts.{textOf}
-use Rattle.numerals.proofs.Texts.{added-twice}
+use Rattle.ground.proofs.Lists.{added-twice}
 use borrow.Author.Needs.{needs}
 use Rattle.numerals.proofs.text.with_status.Statement.{statement}
 use Rattle.numerals.proofs.text.with_status.Tie as tie
@@ -19,7 +19,10 @@ returns : tie.Need-returns
 returns c =
     let a = c .before in
     let s = a .before .before .args in
-    record { text = added-twice (textOf (s .t)) (ascii " ") (statusText (s .status)) (a .added .ensures .text) (c .with-signed .ensures .text); size = omega arith }
+    record {
+      text = added-twice (textOf (s .t)) (ascii " ") (statusText (s .status)) (a .added .ensures .text) (c .with-signed .ensures .text);
+      size = omega arith;
+    }
 
 pub with-status-spec : {M : Type 1} → statement M
 with-status-spec =

@@ -24,12 +24,14 @@ same-length-3 c = search needs
 returns : tie.Need-returns
 returns c =
     let p = c .before .before .before in
-    let f = p .before .before .before .before .before .before .before .before .before .before in
+    let f = p .before .before .before .before .before .before .before .before .before .before .before in
     let s = f .before .before .before .before .before .before .before in
-    let a = f .feed .result .answer in
-    tells (s .args .traced) (f .feed .result) (f .feed .last .1 .1 .0) (f .feed .last .1 .1 .1 .0) _ (s .args .out .now) (p .put-feed .last .1 .1 .1 .1 .0) (c .is-end .result) (p .put-feed .result)
+    tells (s .args .traced) (f .feed .result) (f .feed .last .1 .1 .0) (f .feed .last .1 .1 .1 .0) (c .is-end .result) (p .put-feed .result)
+    _
+    (s .args .out .now)
+    (p .put-feed .last .1 .1 .1 .1 .1 .0)
     (f .feed .ensures .said)
-    (c .is-end .ensures (a .setup) (a .dropped))
+    (c .is-end .ensures (f .feed .result .answer .setup) (f .feed .result .dropped))
     (p .put-feed .ensures)
 
 pub feed-once-spec : {M : Type 1} → statement M

@@ -1,4 +1,3 @@
-use Rattle.player.proofs.Puts.{removed-goes-on}
 use borrow.Author.Needs.{needs}
 use Rattle.player.proofs.feed.is_end.Statement.{statement}
 use Rattle.player.proofs.feed.is_end.Tie as tie
@@ -43,7 +42,7 @@ returns-5 : tie.Need-returns-5
 returns-5 c setup dropped = rw (c .enum-told4 .given .1)
 
 returns-6 : tie.Need-returns-6
-returns-6 c setup dropped = rw (c .enum-told5 .given .1, removed-goes-on)
+returns-6 c setup dropped = rw (c .enum-told5 .given .1)
 
 returns-7 : tie.Need-returns-7
 returns-7 c setup dropped = rw (c .enum-told6 .given .1)

@@ -1,21 +1,21 @@
 use Prim.Native.Nat.{ℕ, _+_, _-_, _^_, _≤_, _<_}
 use native.Mathlib.Omega.{arith}
-use mathlib.Core.Path.{_≡_, refl, sym, _∙_}
-use mathlib.Core.List.{List, _++_}
-use lib.ListN.{length, take, drop, length-drop}
+use mathlib.Core.Path.{_≡_, refl, _∙_}
+use mathlib.Core.List.{List}
+use lib.ListN.{length, drop, length-drop}
 use mir.Syntax.{w64}
 use mir.Val.{Fits}
 use borrow.Rule.Slice.PartMut.{same-len-mid}
 use borrow.Author.Needs.{needs}
-use Rattle.model.specs.Model.{Buffers}
+use Rattle.model.specs.Acts.{Buffers}
 use Rattle.model.specs.Cut.{lent}
-use Rattle.events.specs.Plans.{Said}
+use Rattle.events.specs.Plans.{Result}
 use Rattle.feeding.specs.Feeding.{fedOf}
 use Rattle.session.specs.Views.{viewOf}
-use Rattle.player.specs.Play.{saidText, playStream}
+use Rattle.player.specs.Play.{resultText, playStream}
 use Rattle.player.specs.Played.{Tells}
-use Rattle.player.proofs.Puts.{part-end, puts-next}
-use Rattle.player.proofs.Streams.{Going, More, used-within, unbegun, resumed, finished}
+use Rattle.player.proofs.Puts.{rest, rest-drop, behind, puts-next}
+use Rattle.player.proofs.Streams.{Going, More, consumed-within, unbegun, resumed, finished}
 use Rattle.player.proofs.feed.play_stream.Statement.{statement}
 use Rattle.player.proofs.feed.play_stream.Tie as tie
 
@@ -27,7 +27,8 @@ Inv-loop traced bytes work₀ reply₀ out₀ s₀ at₀ turn₀ len₀ size wor
     × (length work ≡ length work₀)
     × (length reply ≡ length reply₀)
     × (length out ≡ length out₀)
-    × Going (playStream traced (length bytes) (viewOf s₀) (lent work₀ reply₀) bytes) (playStream traced (size - turn) (viewOf s) (lent work reply) (drop at bytes)) out₀ out len
+    × Going (playStream traced (length bytes) (viewOf s₀) (lent work₀ reply₀) bytes)
+    (playStream traced (size - turn) (viewOf s) (lent work reply) (drop at bytes)) out₀ out len
 
 abbrev μ-loop : tie.MeasureT-loop
 μ-loop traced bytes work₀ reply₀ out₀ s₀ at₀ turn₀ len₀ size work reply out s at turn len = size - turn
@@ -35,7 +36,8 @@ abbrev μ-loop : tie.MeasureT-loop
 loop-holds : tie.Need-loop-holds Inv-loop μ-loop
 loop-holds c =
     let a = c .before .before .before .before .args in
-    (refl, omega arith, omega arith, refl, refl, refl, unbegun (a .traced) (length (a .bytes .now)) (viewOf (a .session)) (lent (a .work .now) (a .reply .now)) (a .bytes .now) (a .out .now))
+    let begun = unbegun (a .traced) (length (a .bytes .now)) (viewOf (a .session)) (lent (a .work .now) (a .reply .now)) (a .bytes .now) (a .out .now) in
+    (refl, omega arith, omega arith, refl, refl, refl, begun)
 
 sub-feed-once : tie.Need-sub-feed-once Inv-loop μ-loop
 sub-feed-once c = search needs
@@ -65,14 +67,18 @@ loop f = f .before .before .before .before .before .before
 abbrev start : tie.After-feed-once Inv-loop μ-loop → tie.Start Inv-loop μ-loop
 start f = loop f .before .before .before .before .before
 
-abbrev said : tie.After-feed-once Inv-loop μ-loop → Said
-said f = let l = loop f .loop in fedOf (viewOf (l .s)) (lent (l .work) (l .reply)) (drop (l .at) (start f .args .bytes .now))
+abbrev result : tie.After-feed-once Inv-loop μ-loop → Result
+result f = let l = loop f .loop in fedOf (viewOf (l .s)) (lent (l .work) (l .reply)) (drop (l .at) (start f .args .bytes .now))
 
 abbrev left : tie.After-feed-once Inv-loop μ-loop → Buffers
 left f = lent (f .feed-once .last .1 .1 .1 .0) (f .feed-once .last .1 .1 .1 .1 .0)
 
-abbrev fresh : tie.After-feed-once Inv-loop μ-loop → List ℕ
-fresh f = let l = loop f .loop in take (length (l .out) - l .len) (drop (l .len) (l .out))
+-- the output that the feed was lent, and its bytes there
+abbrev room : tie.After-feed-once Inv-loop μ-loop → List ℕ
+room f = let l = loop f .loop in rest (l .out) (l .len)
+
+abbrev lines : tie.After-feed-once Inv-loop μ-loop → List ℕ
+lines f = f .feed-once .last .1 .1 .1 .1 .1 .0
 
 -- lengths fit
 short : (k : tie.After-slice-known3 Inv-loop μ-loop) →
@@ -80,41 +86,42 @@ short : (k : tie.After-slice-known3 Inv-loop μ-loop) →
     (length (a .bytes .now) < 2 ^ 64) × (length (a .out .now) < 2 ^ 64)
 short k = (omega arith, omega arith)
 
-told : (f : tie.After-feed-once Inv-loop μ-loop) → Tells (start f .args .traced) (f .feed-once .result) (said f) (left f) (fresh f) (f .feed-once .last .1 .1 .1 .1 .1 .0)
-told f = let l = loop f .loop in rw (part-end (start f .args .bytes .now) (length (start f .args .bytes .now)) (l .at) refl) at (f .feed-once .ensures)
+told : (f : tie.After-feed-once Inv-loop μ-loop) → Tells (start f .args .traced) (f .feed-once .result) (result f) (left f) (room f) (lines f)
+told f = rw (rest-drop (start f .args .bytes .now) (loop f .loop .at)) at (f .feed-once .ensures)
 
-consumed-within : (f : tie.After-feed-once Inv-loop μ-loop) → loop f .loop .at + f .feed-once .result .consumed ≤ length (start f .args .bytes .now)
-consumed-within f =
+at-within : (f : tie.After-feed-once Inv-loop μ-loop) → loop f .loop .at + f .feed-once .result .consumed ≤ length (start f .args .bytes .now)
+at-within f =
     let l = loop f .loop in
     let bytes = start f .args .bytes .now in
-    omega (arith, told f .consumed, used-within (viewOf (l .s)) (lent (l .work) (l .reply)) (drop (l .at) bytes), length-drop (l .at) bytes, l .inv .1)
+    let w = consumed-within (viewOf (l .s)) (lent (l .work) (l .reply)) (drop (l .at) bytes) in
+    omega (arith, told f .consumed, w, length-drop (l .at) bytes, l .inv .1)
 
 -- the buffer with its lines
 abbrev lined : tie.After-feed-once Inv-loop μ-loop → List ℕ
-lined f = let l = loop f .loop in take (l .len) (l .out) ++ (f .feed-once .last .1 .1 .1 .1 .1 .0 ++ drop (length (l .out) - l .len) (drop (l .len) (l .out)))
+lined f = let l = loop f .loop in behind (l .out) (l .len) (lines f)
 
-put-more : (f : tie.After-feed-once Inv-loop μ-loop) → let l = loop f .loop in More (saidText (start f .args .traced) (said f)) (start f .args .out .now) (l .out) (lined f) (l .len) (l .len + f .feed-once .result .len)
-put-more f W p =
+put-more : (f : tie.After-feed-once Inv-loop μ-loop) →
     let l = loop f .loop in
-    puts-next W (saidText (start f .args .traced) (said f)) (start f .args .out .now) (l .out) (f .feed-once .last .1 .1 .1 .1 .1 .0) (length (l .out)) (l .len) (f .feed-once .result .len)
-    refl
-    (sym (l .inv .5))
-    (f .feed-once .kept .1 .1 .1 .1 .1 .0)
-    p
-    (told f .lines)
+    More (resultText (start f .args .traced) (result f)) (start f .args .out .now) (l .out) (lined f) (l .len) (l .len + f .feed-once .result .len)
+put-more f W p = puts-next p (told f .lines) (loop f .loop .inv .5) (f .feed-once .kept .1 .1 .1 .1 .1 .0)
+
+lined-length : (f : tie.After-feed-once Inv-loop μ-loop) → length (lined f) ≡ length (start f .args .out .now)
+lined-length f =
+    let l = loop f .loop in
+    same-len-mid (l .len) (length (l .out) - l .len) (l .out) (lines f) (f .feed-once .kept .1 .1 .1 .1 .1 .0) ∙ l .inv .5
 
 add-at : tie.Need-add-at Inv-loop μ-loop
 add-at c =
     let f = c .before .before .before .before .before .before .before .before in
-    let h : Fits w64 (loop f .loop .at + f .feed-once .result .consumed) = omega (arith, consumed-within f, short (loop f .before) .0) in
+    let h : Fits w64 (loop f .loop .at + f .feed-once .result .consumed) = omega (arith, at-within f, short (loop f .before) .0) in
     h
 
 add-len : tie.Need-add-len Inv-loop μ-loop
 add-len c =
     let f = c .before .before .before .before .before .before .before .before .before in
     let g = loop f .loop .inv .6 in
-    let e = same-len-mid (loop f .loop .len) (length (loop f .loop .out) - loop f .loop .len) (loop f .loop .out) (f .feed-once .last .1 .1 .1 .1 .1 .0) (f .feed-once .kept .1 .1 .1 .1 .1 .0) in
-    let h : Fits w64 (loop f .loop .len + f .feed-once .result .len) = omega (arith, put-more f (g .text) (g .lines) .within, e, loop f .loop .inv .5, short (loop f .before) .1) in
+    let w = put-more f (g .text) (g .lines) .within in
+    let h : Fits w64 (loop f .loop .len + f .feed-once .result .len) = omega (arith, w, lined-length f, short (loop f .before) .1) in
     h
 
 next-turn-requires : tie.Need-next-turn-requires Inv-loop μ-loop
@@ -129,12 +136,13 @@ loop-again c =
     let l = loop f .loop in
     let bytes = start f .args .bytes .now in (
       refl,
-      consumed-within f,
+      at-within f,
       c .next-turn .ensures .1,
       f .feed-once .kept .1 .1 .1 .0 ∙ l .inv .3,
       f .feed-once .kept .1 .1 .1 .1 .0 ∙ l .inv .4,
-      same-len-mid (l .len) (length (l .out) - l .len) (l .out) (f .feed-once .last .1 .1 .1 .1 .1 .0) (f .feed-once .kept .1 .1 .1 .1 .1 .0) ∙ l .inv .5,
-      resumed (start f .args .traced) bytes _ (l .at) (l .turn) (length bytes) (viewOf (l .s)) (lent (l .work) (l .reply)) (start f .args .out .now) (l .out) (lined f) (l .len) (l .len + f .feed-once .result .len) (f .feed-once .result) (f .feed-once .last .1 .1 .1 .1 .1 .0) (fresh f) (left f)
+      lined-length f,
+      resumed (start f .args .traced) bytes _ (l .at) (l .turn) (length bytes) (viewOf (l .s)) (lent (l .work) (l .reply)) (start f .args .out .now) (l .out)
+          (lined f) (l .len) (l .len + f .feed-once .result .len) (f .feed-once .result) (lines f) (room f) (left f)
           (told f)
           refl
           (l .inv .1)
@@ -158,7 +166,8 @@ returns : tie.Need-returns Inv-loop μ-loop
 returns c =
     let l = c .before .loop in
     let a = c .before .before .before .before .before .before .args in
-    finished (a .traced) (length (a .bytes .now) - l .turn) (record { session = l .s; len = l .len }) _ (lent (l .work) (l .reply)) (drop (l .at) (a .bytes .now)) (a .out .now) (l .out) (omega arith) (l .inv .6)
+    finished (a .traced) (length (a .bytes .now) - l .turn) (record { session = l .s; len = l .len }) _ (lent (l .work) (l .reply))
+    (drop (l .at) (a .bytes .now)) (a .out .now) (l .out) (omega arith) (l .inv .6)
 
 pub play-stream-spec : {M : Type 1} → statement M
 play-stream-spec =

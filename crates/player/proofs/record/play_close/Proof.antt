@@ -19,7 +19,8 @@ returns c =
     let k = c .before .before in
     let d = k .before .before .before .before in
     let a = d .before .before .args in
-    close-played (d .close .result) (viewOf (a .session)) (a .out .now) _ (k .close-lines .result) (d .close .ensures .said) (puts-wrote _ _ _ _ (k .close-lines .ensures))
+    close-played (d .close .result) (viewOf (a .session)) (a .out .now) _ (k .close-lines .result) (d .close .ensures .said)
+    (puts-wrote _ _ _ _ (k .close-lines .ensures))
 
 pub play-close-spec : {M : Type 1} → statement M
 play-close-spec = tie.close (tie.spec close-requires close-lines-requires same-length returns)

@@ -31,7 +31,8 @@ returns c =
     let d = k .before .before .before .before .before in
     let m = d .before .before .before in
     let a = m .before .before .args in
-    completion-played (a .traced) (a .ticket) (a .status) (a .actual) (d .complete .result) (viewOf (a .session)) (m .device-data .result) _ (a .out .now) _ (k .put-completion .result)
+    completion-played (a .traced) (a .ticket) (a .status) (a .actual) (d .complete .result) (viewOf (a .session)) (m .device-data .result) _ (a .out .now) _
+    (k .put-completion .result)
     (m .device-data .ensures)
     (d .complete .ensures .said)
     (k .put-completion .ensures)

@@ -1,4 +1,4 @@
-use Rattle.player.proofs.Puts.{puts-none, puts-wrote, removed-text}
+use Rattle.player.proofs.Puts.{puts-none, puts-wrote}
 use borrow.Author.Needs.{needs}
 use Rattle.player.proofs.text.put_beside.Statement.{statement}
 use Rattle.player.proofs.text.put_beside.Tie as tie
@@ -37,7 +37,7 @@ same-length : tie.Need-same-length
 same-length c = search needs
 
 returns : tie.Need-returns
-returns c =
+returns c ts =
     let k = c .before .before in
     rw (k .before .before .before .event .given .1) (k .put-submit .ensures)
 
@@ -45,27 +45,27 @@ same-length-2 : tie.Need-same-length-2
 same-length-2 c = search needs
 
 returns-2 : tie.Need-returns-2
-returns-2 c =
+returns-2 c ts =
     let k = c .before .before in
-    rw (k .before .before .before .event2 .given .1, removed-text) (puts-wrote _ _ _ _ (k .trace-removed .ensures))
+    rw (k .before .before .before .event2 .given .1) (puts-wrote _ _ _ _ (k .trace-removed .ensures))
 
 returns-3 : tie.Need-returns-3
-returns-3 c = rw (c .enum-told .given .1) (puts-none _)
+returns-3 c ts = rw (c .enum-told .given .1) (puts-none _)
 
 returns-4 : tie.Need-returns-4
-returns-4 c = rw (c .enum-told2 .given .1) (puts-none _)
+returns-4 c ts = rw (c .enum-told2 .given .1) (puts-none _)
 
 returns-5 : tie.Need-returns-5
-returns-5 c = rw (c .enum-told3 .given .1) (puts-none _)
+returns-5 c ts = rw (c .enum-told3 .given .1) (puts-none _)
 
 returns-6 : tie.Need-returns-6
-returns-6 c = rw (c .enum-told4 .given .1) (puts-none _)
+returns-6 c ts = rw (c .enum-told4 .given .1) (puts-none _)
 
 returns-7 : tie.Need-returns-7
-returns-7 c = rw (c .enum-told5 .given .1) (puts-none _)
+returns-7 c ts = rw (c .enum-told5 .given .1) (puts-none _)
 
 returns-8 : tie.Need-returns-8
-returns-8 c = rw (c .enum-told6 .given .1) (puts-none _)
+returns-8 c ts = rw (c .enum-told6 .given .1) (puts-none _)
 
 pub put-beside-spec : {M : Type 1} → statement M
 put-beside-spec =

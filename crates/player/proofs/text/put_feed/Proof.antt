@@ -1,13 +1,11 @@
-use Prim.Native.Nat.{ℕ, _+_, _-_}
+use Prim.Native.Nat.{ℕ, _+_}
 use native.Mathlib.Omega.{arith}
-use mathlib.Core.Path.{refl, sym}
-use mathlib.Core.List.{List, _++_}
-use lib.ListN.{length, take, drop}
-use Rattle.model.specs.Model.{Event}
+use mathlib.Core.List.{List}
+use Rattle.model.specs.Answers.{Outcome, Event}
 use Rattle.events.specs.Answers.{eventOf}
-use Rattle.lines.specs.Lines.{linesOf}
-use Rattle.player.specs.Play.{Puts, tracedText, feedText}
-use Rattle.player.proofs.Puts.{puts-wrote, puts-next, with-trace, without-trace}
+use Rattle.lines.specs.Lines.{feedLines}
+use Rattle.player.specs.Prints.{Puts, feedText}
+use Rattle.player.proofs.Puts.{behind, puts-wrote, puts-alone, puts-traced}
 use borrow.Author.Needs.{needs}
 use Rattle.player.proofs.text.put_feed.Statement.{statement}
 use Rattle.player.proofs.text.put_feed.Tie as tie
@@ -15,21 +13,15 @@ use Rattle.player.proofs.text.put_feed.Tie as tie
 abbrev start : tie.After-feed-lines → tie.Start
 start f = f .before .before .before .before .before
 
-abbrev event : tie.After-feed-lines → Event
-event f = let a = start f .args .a in eventOf (a .event) (a .setup) (a .dropped)
-
-abbrev traced : tie.After-feed-lines → List ℕ
-traced f = let s = start f .args in tracedText (event f) (s .a .consumed) (s .a .length) (s .work .now) (s .reply .now)
-
-abbrev told : tie.After-feed-lines → List ℕ
-told f = linesOf (event f)
+abbrev event : tie.After-feed-lines → Outcome Event
+event f = let s = start f .args in eventOf (s .a .event) (s .a .setup) (s .dropped)
 
 -- the buffer with the lines of a replay
 abbrev lined : tie.After-feed-lines → List ℕ
-lined f = f .feed-lines .last .1 .0
+lined f = f .feed-lines .last .1 .1 .0
 
-lines-put : (f : tie.After-feed-lines) → Puts (told f) (start f .args .out .now) (lined f) (f .feed-lines .result)
-lines-put f = puts-wrote (told f) (start f .args .out .now) (lined f) (f .feed-lines .result) (f .feed-lines .ensures)
+lines-put : (f : tie.After-feed-lines) → Puts (feedLines (event f)) (start f .args .out .now) (lined f) (f .feed-lines .result)
+lines-put f = puts-wrote _ _ _ _ (f .feed-lines .ensures)
 
 feed-lines-requires : tie.Need-feed-lines-requires
 feed-lines-requires c κs = search needs
@@ -47,40 +39,33 @@ put-traced-requires : tie.Need-put-traced-requires
 put-traced-requires c κs = search needs
 
 -- those of a trace behind them
-both-put : (b : tie.After-put-traced) →
+traces-put : (b : tie.After-put-traced) →
     let f = b .before .before .before .before .before in
     let n = f .feed-lines .result in
     let s = start f .args in
-    Puts (feedText (s .traced) (event f) (s .a .consumed) (s .a .length) (s .work .now) (s .reply .now)) (s .out .now) (take n (lined f) ++ (b .put-traced .last .1 .1 .1 .0 ++ drop (length (lined f) - n) (drop n (lined f)))) (n + b .put-traced .result)
-both-put b =
+    Puts (feedText (s .traced) (event f) (s .a .consumed) (s .a .length) (s .work .now) (s .reply .now)) (s .out .now)
+    (behind (lined f) n (b .put-traced .last .1 .1 .1 .0))
+    (n + b .put-traced .result)
+traces-put b =
     let t = b .before .before in
     let f = t .before .before .before in
-    let s = start f .args in
-    with-trace (s .traced) (told f) (traced f) (s .out .now) _ _ (t .if1 .taken)
-    (puts-next (told f) (traced f) (s .out .now) (lined f) (b .put-traced .last .1 .1 .1 .0) (length (lined f)) (f .feed-lines .result) (b .put-traced .result)
-    refl
-    (sym (f .feed-lines .kept .1 .0))
-    (b .put-traced .kept .1 .1 .1 .0)
-    (lines-put f)
-    (b .put-traced .ensures))
+    puts-traced (lines-put f) (b .put-traced .ensures (start f .args .dropped)) (f .feed-lines .kept .1 .1 .0) (b .put-traced .kept .1 .1 .1 .0)
+    (t .if1 .taken)
 
 add-result : tie.Need-add-result
-add-result c = omega (arith, both-put (c .before .before) .within)
+add-result c = omega (arith, traces-put (c .before .before) .within)
 
 same-length : tie.Need-same-length
 same-length c = search needs
 
 returns : tie.Need-returns
-returns c = both-put (c .before .before)
+returns c = traces-put (c .before .before)
 
 same-length-2 : tie.Need-same-length-2
 same-length-2 c = search needs
 
 returns-2 : tie.Need-returns-2
-returns-2 c =
-    let f = c .before .before .before in
-    let s = start f .args in
-    without-trace (s .traced) (told f) (traced f) (s .out .now) _ _ (c .if1 .left) (lines-put f)
+returns-2 c = rw (c .if1 .left) (puts-alone (lines-put (c .before .before .before)))
 
 pub put-feed-spec : {M : Type 1} → statement M
 put-feed-spec =

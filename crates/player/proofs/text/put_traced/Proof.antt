@@ -1,13 +1,13 @@
-use Prim.Native.Nat.{ℕ, _+_, _-_}
+use Prim.Native.Nat.{ℕ, _+_}
 use native.Mathlib.Omega.{arith}
-use mathlib.Core.Path.{refl, sym}
-use mathlib.Core.List.{List, _++_}
-use lib.ListN.{length, take, drop}
-use Rattle.model.specs.Model.{Event}
+use mathlib.Core.List.{List, []}
+use lib.ListN.{take}
+use Rattle.pending.specs.Pending.{listing}
+use Rattle.pending.specs.declared.list.Tickets.{Tickets}
 use Rattle.events.specs.Answers.{eventOf}
 use Rattle.traces.specs.Traces.{feedTrace}
-use Rattle.player.specs.Play.{Puts, besideText, tracedText}
-use Rattle.player.proofs.Puts.{puts-wrote, puts-next}
+use Rattle.player.specs.Prints.{Puts, feedTraces}
+use Rattle.player.proofs.Puts.{behind, puts-wrote, puts-next}
 use borrow.Author.Needs.{needs}
 use Rattle.player.proofs.text.put_traced.Statement.{statement}
 use Rattle.player.proofs.text.put_traced.Tie as tie
@@ -15,18 +15,14 @@ use Rattle.player.proofs.text.put_traced.Tie as tie
 abbrev start : tie.After-trace-feed → tie.Start
 start t = t .before .before .before .before .before .before
 
-abbrev event : tie.After-trace-feed → Event
-event t = let a = start t .args .a in eventOf (a .event) (a .setup) (a .dropped)
-
-abbrev traced : tie.After-trace-feed → List ℕ
-traced t = let a = start t .args .a in feedTrace (a .consumed) (a .length) (take (a .length) (start t .args .reply .now))
-
 -- the buffer with the first line
 abbrev fed : tie.After-trace-feed → List ℕ
 fed t = t .trace-feed .last .1 .1 .1 .0
 
-fed-put : (t : tie.After-trace-feed) → Puts (traced t) (start t .args .out .now) (fed t) (t .trace-feed .result)
-fed-put t = puts-wrote (traced t) (start t .args .out .now) (fed t) (t .trace-feed .result) (rw (t .before .before .front .ensures) at (t .trace-feed .ensures))
+fed-put : (t : tie.After-trace-feed) →
+    let s = start t .args in
+    Puts (feedTrace (s .a .consumed) (s .a .length) (take (s .a .length) (s .reply .now))) (s .out .now) (fed t) (t .trace-feed .result)
+fed-put t = rw (t .before .before .front .ensures) at (puts-wrote _ _ _ _ (t .trace-feed .ensures))
 
 front-requires : tie.Need-front-requires
 front-requires c κs = search needs
@@ -47,27 +43,25 @@ put-beside-requires : tie.Need-put-beside-requires
 put-beside-requires c κs = search needs
 
 -- what goes with the event behind it
-both-put : (b : tie.After-put-beside) →
+event-put : (b : tie.After-put-beside) (ts : Tickets) →
     let t = b .before .before .before .before in
     let n = t .trace-feed .result in
-    Puts (tracedText (event t) (start t .args .a .consumed) (start t .args .a .length) (start t .args .work .now) (start t .args .reply .now)) (start t .args .out .now) (take n (fed t) ++ (b .put-beside .last .1 .1 .0 ++ drop (length (fed t) - n) (drop n (fed t)))) (n + b .put-beside .result)
-both-put b =
+    let s = start t .args in
+    Puts (feedTraces (eventOf (s .a .event) (s .a .setup) ts) (s .a .consumed) (s .a .length) (s .work .now) (s .reply .now)) (s .out .now)
+    (behind (fed t) n (b .put-beside .last .1 .1 .0))
+    (n + b .put-beside .result)
+event-put b ts =
     let t = b .before .before .before .before in
-    puts-next (traced t) (besideText (event t) (start t .args .work .now)) (start t .args .out .now) (fed t) (b .put-beside .last .1 .1 .0) (length (fed t)) (t .trace-feed .result) (b .put-beside .result)
-    refl
-    (sym (t .trace-feed .kept .1 .1 .1 .0))
-    (b .put-beside .kept .1 .1 .0)
-    (fed-put t)
-    (b .put-beside .ensures)
+    puts-next (fed-put t) (b .put-beside .ensures ts) (t .trace-feed .kept .1 .1 .1 .0) (b .put-beside .kept .1 .1 .0)
 
 add-result : tie.Need-add-result
-add-result c = omega (arith, both-put (c .before .before) .within)
+add-result c = omega (arith, event-put (c .before .before) (listing []) .within)
 
 same-length : tie.Need-same-length
 same-length c = search needs
 
 returns : tie.Need-returns
-returns c = both-put (c .before .before)
+returns c ts = event-put (c .before .before) ts
 
 pub put-traced-spec : {M : Type 1} → statement M
 put-traced-spec =

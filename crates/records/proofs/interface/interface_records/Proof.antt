@@ -4,7 +4,7 @@ use native.Mathlib.Omega.{arith}
 use mathlib.Core.Path.{_≡_, refl, _∙_}
 use mathlib.Core.List.{List, map, _++_}
 use lib.ListN.{length, take, drop, replicate}
-use Rattle.exports.specs.Devices.{MAX-INTERFACES}
+use Rattle.limits.specs.Limits.{MAX-INTERFACES}
 use Rattle.records.specs.Records.{INTERFACE-LEN, interfaceRecord}
 use Rattle.records.proofs.Records.{noInterface}
 use Rattle.records.proofs.Fill.{fill-more, fill-done}

@@ -4,7 +4,8 @@ use native.Mathlib.Omega.{arith}
 use mathlib.Core.Path.{_≡_, refl, _∙_}
 use mathlib.Core.List.{List, map, _++_}
 use lib.ListN.{length, take, drop, replicate}
-use Rattle.exports.specs.Devices.{noDevice, MAX-DEVICES, MAX-INTERFACES}
+use Rattle.exports.specs.Devices.{noDevice}
+use Rattle.limits.specs.Limits.{MAX-DEVICES, MAX-INTERFACES}
 use Rattle.records.specs.Records.{INTERFACE-LEN, recordsOf}
 use Rattle.records.proofs.Fill.{fill-more, fill-done}
 use Rattle.records.proofs.interface.table_interfaces.Statement.{statement}

@@ -77,7 +77,9 @@ array-read-t60 c = search needs
 array-read-t63 : tie.Need-array-read-t63
 array-read-t63 c = search needs
 
-are-bytes : (c : tie.Start) → let d = c .args .d in (d .bDeviceClass < 256) × (d .bDeviceSubClass < 256) × (d .bDeviceProtocol < 256) × (d .bConfigurationValue < 256) × (d .bNumConfigurations < 256) × (d .bNumInterfaces < 256)
+are-bytes : (c : tie.Start) → let d = c .args .d in
+    (d .bDeviceClass < 256) × (d .bDeviceSubClass < 256) × (d .bDeviceProtocol < 256) × (d .bConfigurationValue < 256)
+    × (d .bNumConfigurations < 256) × (d .bNumInterfaces < 256)
 are-bytes c = search needs
 
 returns : tie.Need-returns

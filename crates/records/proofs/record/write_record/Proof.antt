@@ -7,10 +7,11 @@ use borrow.Rule.Slice.PartMut.{same-len-mid}
 use Rattle.wire.specs.Codes.{BUSID-LEN}
 use Rattle.wire.specs.Fields.{pack}
 use Rattle.wire.proofs.Heads.{pack-length}
-use Rattle.wire.proofs.Parts.{wrote-none, wrote-all, wrote-over, written-next}
-use Rattle.exports.specs.Devices.{PATH-LEN}
-use Rattle.records.specs.Records.{NUMBERS-LEN, DEVICE-LEN, Shaped, numbersOf, deviceRecord}
-use Rattle.records.proofs.Records.{unmapped, record-length}
+use Rattle.ground.proofs.Parts.{wrote-none, wrote-all, wrote-over, written-next}
+use Rattle.limits.specs.Limits.{PATH-LEN}
+use Rattle.records.specs.Records.{NUMBERS-LEN, DEVICE-LEN, Shaped, numberFields, deviceRecord}
+use Rattle.ground.proofs.Lists.{unmapped}
+use Rattle.records.proofs.Records.{record-length}
 use borrow.Author.Needs.{needs}
 use Rattle.records.proofs.record.write_record.Statement.{statement}
 use Rattle.records.proofs.record.write_record.Tie as tie
@@ -83,12 +84,16 @@ returns-2 c =
     let room : DEVICE-LEN ≤ length D = n .before .before .before .if1 .left in
     let e1 = wrote-all (d .path) D (k1 .write .last .0) (k1 .write .result) (omega arith) (k1 .write .ensures) in
     let l1 : length (k1 .write .last .0) ≡ length D = k1 .write .kept .0 in
-    let e2 = written-next D (k1 .write .last .0) (d .path) (d .busid) (k2 .write2 .last .0) PATH-LEN _ (k2 .write2 .result) refl (h .0) e1 (omega arith) (k2 .write2 .ensures) in
+    let e2 =
+    written-next D (k1 .write .last .0) (d .path) (d .busid) (k2 .write2 .last .0) PATH-LEN _ (k2 .write2 .result) refl (h .0) e1 (omega arith)
+    (k2 .write2 .ensures) in
     let l2 = same-len-mid PATH-LEN (length (k1 .write .last .0) - PATH-LEN) (k1 .write .last .0) (k2 .write2 .last .0) (k2 .write2 .kept .0) ∙ l1 in
     let tail = n .numbers .result in
-    let t : tail ≡ pack (numbersOf d) = n .numbers .ensures in
-    let lt : length tail ≡ NUMBERS-LEN = ap length t ∙ pack-length (numbersOf d) in
-    let e3 = written-next D _ (d .path ++ d .busid) tail (k3 .write3 .last .0) (PATH-LEN + BUSID-LEN) _ (k3 .write3 .result) refl (simp length-append (omega arith)) e2 (omega arith) (k3 .write3 .ensures) in
+    let t : tail ≡ pack (numberFields d) = n .numbers .ensures in
+    let lt : length tail ≡ NUMBERS-LEN = ap length t ∙ pack-length (numberFields d) in
+    let e3 =
+    written-next D _ (d .path ++ d .busid) tail (k3 .write3 .last .0) (PATH-LEN + BUSID-LEN) _ (k3 .write3 .result) refl
+    (simp length-append (omega arith)) e2 (omega arith) (k3 .write3 .ensures) in
     wrote-over (deviceRecord d) D _ DEVICE-LEN (omega arith) (rw t at e3) (sym l)
 
 pub write-record-spec : {M : Type 1} → statement M

@@ -38,8 +38,10 @@ returns c =
     let t = v .before .before .before in
     let s = t .before .before .before in
     let a = s .args in
-    let n : length (take (a .to - a .from) (drop (a .from) (a .piece .now))) ≡ a .to - a .from = length-take-le _ _ (rw length-drop (omega (arith, s .pre .0))) in
-    written-sets (a .work .now) (take (a .to - a .from) (drop (a .from) (a .piece .now))) (v .write .last .0) (a .at) (length (a .work .now)) (v .write .result) refl (omega (arith, n, s .pre .1)) (v .write .ensures)
+    let n : length (take (a .to - a .from) (drop (a .from) (a .piece .now))) ≡ a .to - a .from =
+    length-take-le _ _ (rw length-drop (omega (arith, s .pre .0))) in
+    written-sets (a .work .now) (take (a .to - a .from) (drop (a .from) (a .piece .now))) (v .write .last .0) (a .at) (length (a .work .now)) (v .write .result)
+    refl (omega (arith, n, s .pre .1)) (v .write .ensures)
 
 returns-2 : tie.Need-returns-2
 returns-2 c =

@@ -1,6 +1,6 @@
 use Rattle.session.proofs.Writing.{ret-submit-length}
 use Rattle.messages.specs.Messages.{retSubmit}
-use Rattle.wire.proofs.Parts.{wrote-all}
+use Rattle.ground.proofs.Parts.{wrote-all}
 use native.Mathlib.Omega.{arith}
 use borrow.Author.Needs.{needs}
 use Rattle.session.proofs.carry.write_header.Statement.{statement}
@@ -18,7 +18,9 @@ returns c =
     let t = w .before .before in
     let s = t .before .before in
     let r = s .args .ret in
-    rw (t .if1 .taken) (wrote-all (retSubmit r) (s .args .header .now) _ (w .write-ret-submit .result) (omega (arith, ret-submit-length r, s .pre (t .if1 .taken))) (w .write-ret-submit .ensures))
+    rw (t .if1 .taken)
+    (wrote-all (retSubmit r) (s .args .header .now) _ (w .write-ret-submit .result) (omega (arith, ret-submit-length r, s .pre (t .if1 .taken)))
+    (w .write-ret-submit .ensures))
 
 returns-2 : tie.Need-returns-2
 returns-2 c = rw (c .if1 .left)

@@ -19,7 +19,8 @@ field32-requires-2 c κs = search needs
 
 returns-2 : tie.Need-returns-2
 unfolding completionHead
-returns-2 c = rw (← c .before .before .field64 .ensures, ← c .before .field32 .ensures, ← c .field322 .ensures, le-ltb _ _ (c .before .before .before .if1 .left))
+returns-2 c =
+    rw (← c .before .before .field64 .ensures, ← c .before .field32 .ensures, ← c .field322 .ensures, le-ltb _ _ (c .before .before .before .if1 .left))
 
 pub completion-head-spec : {M : Type 1} → statement M
 completion-head-spec =

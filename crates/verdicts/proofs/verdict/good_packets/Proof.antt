@@ -1,4 +1,4 @@
-use Rattle.verdicts.proofs.Deciding.{tests}
+use Rattle.ground.proofs.Tests.{tests}
 use native.Mathlib.Omega.{arith}
 use Rattle.verdicts.proofs.verdict.good_packets.Statement.{statement}
 use Rattle.verdicts.proofs.verdict.good_packets.Tie as tie

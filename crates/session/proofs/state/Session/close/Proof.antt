@@ -1,46 +1,35 @@
-use Rattle.links.specs.Links.{whole, viewOf}
-use Rattle.events.specs.Answers.{closingOf}
-use Rattle.session.proofs.Carrying.{next-same, next-tidy}
-use Rattle.wire.specs.Codes.{SETUP-LEN}
-use mathlib.Core.List.{List}
-use Prim.Native.Nat.{ℕ}
-use Rattle.records.proofs.Records.{unmapped}
-use Rattle.pending.specs.Pending.{MAX-PENDING}
-use lib.ListN.{length, replicate}
-use mathlib.Core.Path.{_≡_, refl, _∙_}
+use Prim.Native.Nat.{_≤_}
+use Rattle.pending.specs.Pending.{Whole}
+use Rattle.ground.proofs.Lists.{unmapped}
+use Rattle.limits.specs.Limits
+use Rattle.session.proofs.Carrying.{closes-by}
 use borrow.Author.Needs.{needs}
 use Rattle.session.proofs.state.Session.close.Statement.{statement}
 use Rattle.session.proofs.state.Session.close.Tie as tie
 
-whole-list : (c : tie.Start) → length (c .args .self .pending .urbs) ≡ MAX-PENDING
-whole-list c = search (unmapped, needs)
+whole : (c : tie.Start) → Whole (c .args .self .pending)
+whole c = search (unmapped, needs)
+
+counted : (c : tie.Start) → c .args .self .link .counts .accepted ≤ Limits.LAST-TICKET
+counted c = search (unmapped, needs)
 
 plan-close-requires : tie.Need-plan-close-requires
 plan-close-requires c κs = search needs
 
-changed-list-requires : tie.Need-changed-list-requires
-changed-list-requires c κs = search needs
+changed-requires : tie.Need-changed-requires
+changed-requires c κs = search needs
 
-dropped-tickets-requires : tie.Need-dropped-tickets-requires
-dropped-tickets-requires c κs = search needs
+tickets-requires : tie.Need-tickets-requires
+tickets-requires c κs = search needs
 
 returns : tie.Need-returns
 returns c =
-    let d = c .before in
-    let l = d .before in
-    let e = l .before .before in
-    let b = e .before .before .before in
-    let s = b .args .self in
-    let q = e .plan-close .result in
-    let k = e .plan-close .ensures (s .table) (s .pending) (whole-list b) refl in
-    let setup : List ℕ = replicate SETUP-LEN 0 in
-    record {
-      said = (λ i. record { event = closingOf (q .answer) (d .dropped-tickets .ensures i); next = viewOf (whole (s .table) (q .link) (l .changed-list .ensures i)) }) ∙ k .ended;
-      dropped = rw (d .dropped-tickets .ensures, k .dropped);
-      same = λ n h. next-same s (q .link) (l .changed-list .result) (q .change) setup (l .changed-list .ensures) (k .same n h);
-      tidy = λ h. next-tidy s (q .link) (l .changed-list .result) (q .change) setup (l .changed-list .ensures) (k .tidy h);
-    }
+    let t = c .before in
+    let l = t .before in
+    let p = l .before .before .before in
+    let s = p .before .before .before in
+    closes-by (s .args .self) (p .plan-close .result) (l .changed .result) (t .tickets .result) (whole s) (counted s) (p .plan-close .ensures)
+    (l .changed .ensures) (t .tickets .ensures)
 
 pub close-spec : {M : Type 1} → statement M
-close-spec =
-    tie.close (tie.spec plan-close-requires changed-list-requires dropped-tickets-requires returns)
+close-spec = tie.close (tie.spec plan-close-requires changed-requires tickets-requires returns)

@@ -1,23 +1,37 @@
-use Rattle.links.specs.Links.{whole, viewOf}
-use Rattle.events.specs.Answers.{completionOf}
-use Rattle.session.proofs.Carrying.{next-same, next-tidy}
-use Rattle.wire.specs.Codes.{SETUP-LEN}
-use mathlib.Core.List.{List}
-use Prim.Native.Nat.{ℕ}
-use lib.ListN.{replicate}
-use mathlib.Core.Path.{refl, _∙_}
+use Prim.Native.Nat.{_≤_}
+use Rattle.pending.specs.Pending.{Whole}
+use Rattle.ground.proofs.Lists.{unmapped}
+use Rattle.limits.specs.Limits
+use Rattle.session.specs.Views.{handed}
+use Rattle.session.proofs.Carrying.{completion-planned, completes-by}
 use borrow.Author.Needs.{needs}
 use Rattle.session.proofs.state.Session.complete.Statement.{statement}
 use Rattle.session.proofs.state.Session.complete.Tie as tie
 
-judge-completion-requires : tie.Need-judge-completion-requires
-judge-completion-requires c κs = search needs
+whole : (c : tie.Start) → Whole (c .args .self .pending)
+whole c = search (unmapped, needs)
 
-changed-list-requires : tie.Need-changed-list-requires
-changed-list-requires c κs = search needs
+counted : (c : tie.Start) → c .args .self .link .counts .accepted ≤ Limits.LAST-TICKET
+counted c = search (unmapped, needs)
+
+look-requires : tie.Need-look-requires
+look-requires c κs = search needs
+
+plan-completion-requires : tie.Need-plan-completion-requires
+plan-completion-requires c κs = search needs
+
+changed-requires : tie.Need-changed-requires
+changed-requires c κs = search needs
 
 write-header-requires : tie.Need-write-header-requires
-write-header-requires c κs = search needs
+write-header-requires c κs =
+    let p = c .before .before .before .before .before in
+    let y = p .before in
+    let s = y .before .before .before .before .before in
+    let a = s .args in
+    completion-planned (a .self) (handed (a .ticket) (a .status) (a .actual) (a .payload .now) (a .header .now)) (y .look .result) (p .plan-completion .result)
+    (whole s) (counted s)
+    (y .look .ensures) (p .plan-completion .ensures) .fits
 
 same-length : tie.Need-same-length
 same-length c = search needs
@@ -26,31 +40,21 @@ returns : tie.Need-returns
 returns c =
     let h = c .before .before .before in
     let l = h .before .before in
-    let j = l .before .before .before in
-    let s = j .before .before .before .before .before in
+    let p = l .before .before .before .before in
+    let y = p .before in
+    let s = y .before .before .before .before .before in
     let a = s .args in
-    let q = j .judge-completion .result in
-    let k = j .judge-completion .ensures in
-    let setup : List ℕ = replicate SETUP-LEN 0 in
-    record {
-      said =
-          (λ i.
-          record {
-            event = completionOf (q .answer);
-            header = h .write-header .ensures i;
-            next = viewOf (whole (a .self .table) (q .link) (l .changed-list .ensures i));
-          })
-          ∙ k .judged (a .self .table) (a .frame .now) (a .header .now) refl refl;
-      same = λ n z. next-same (a .self) (q .link) (l .changed-list .result) (q .change) setup (l .changed-list .ensures) (k .same n z);
-      tidy = λ z. next-tidy (a .self) (q .link) (l .changed-list .result) (q .change) setup (l .changed-list .ensures) (k .tidy (a .self .table) z);
-    }
+    completes-by (a .self) (handed (a .ticket) (a .status) (a .actual) (a .payload .now) (a .header .now)) _ (y .look .result) (p .plan-completion .result)
+    (l .changed .result)
+    (whole s) (counted s) (y .look .ensures) (p .plan-completion .ensures) (l .changed .ensures) (h .write-header .ensures)
 
 pub complete-spec : {M : Type 1} → statement M
 complete-spec =
     tie.close
     (tie.spec
-    judge-completion-requires
-    changed-list-requires
+    look-requires
+    plan-completion-requires
+    changed-requires
     write-header-requires
     same-length
     returns)

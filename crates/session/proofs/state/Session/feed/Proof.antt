@@ -1,28 +1,29 @@
-use Rattle.links.specs.Links.{whole, viewOf}
-use Rattle.events.specs.Answers.{eventOf}
-use Rattle.events.specs.Plans.{replyBytes}
+use Rattle.ground.proofs.Lists.{unmapped}
 use Rattle.model.specs.Cut.{lent}
-use Rattle.session.proofs.Carrying.{next-same, next-tidy}
-use Rattle.wire.proofs.Parts.{wrote-all, wrote-count}
-use mathlib.Core.Path.{refl, _∙_}
+use Rattle.events.specs.Plans.{replyBytes}
+use Rattle.feeding.specs.Feeding.{Arrays, Composed}
+use Rattle.session.proofs.Carrying.{message-planned, feeds-by}
 use borrow.Author.Needs.{needs}
 use Rattle.session.proofs.state.Session.feed.Statement.{statement}
 use Rattle.session.proofs.state.Session.feed.Tie as tie
 
-plan-feed-requires : tie.Need-plan-feed-requires
-plan-feed-requires c κs = search needs
+arrays : (c : tie.Start) → Arrays (c .args .self .link) (c .args .self .pending)
+arrays c = (search (unmapped, needs), search (unmapped, needs), search (unmapped, needs))
 
-changed-list-requires : tie.Need-changed-list-requires
-changed-list-requires c κs = search needs
+-- the plan is that of the definitions
+composed : (c : tie.After-plan-piece) → let a = c .before .before .before .before .before .before .before .before .before .before .args in
+    let r = c .plan-piece .result in
+    Composed r (replyBytes (r .reply)) (a .self .table) (a .self .link) (a .self .pending) (a .piece .now) (lent (a .work .now) (a .reply .now))
+composed c =
+    let y = c .before in
+    let q = y .before in
+    let s = q .before .before .before .before .before .before .before .before in
+    let a = s .args in
+    message-planned (a .self) (a .piece .now) (lent (a .work .now) (a .reply .now)) (arrays s) (q .ask .result) (y .look .result) (c .plan-piece .result)
+    (q .before .before .if1 .left) (q .ask .ensures) (y .look .ensures) (c .plan-piece .ensures)
 
-dropped-tickets-requires : tie.Need-dropped-tickets-requires
-dropped-tickets-requires c κs = search needs
-
-copy-data-requires : tie.Need-copy-data-requires
-copy-data-requires c κs = search needs
-
-write-reply-requires : tie.Need-write-reply-requires
-write-reply-requires c κs = search needs
+feed-request-requires : tie.Need-feed-request-requires
+feed-request-requires c κs = c .before .before .if1 .taken
 
 same-length : tie.Need-same-length
 same-length c = search needs
@@ -31,43 +32,69 @@ same-length-2 : tie.Need-same-length-2
 same-length-2 c = search needs
 
 returns : tie.Need-returns
-returns c =
-    let r = c .before .before .before in
-    let d = r .before .before .before .before in
+returns c = c .before .before .before .before .feed-request .ensures
+
+ask-requires : tie.Need-ask-requires
+ask-requires c κs = search needs
+
+look-requires : tie.Need-look-requires
+look-requires c κs = search needs
+
+plan-piece-requires : tie.Need-plan-piece-requires
+plan-piece-requires c κs = search needs
+
+changed-requires : tie.Need-changed-requires
+changed-requires c κs = search needs
+
+tickets-requires : tie.Need-tickets-requires
+tickets-requires c κs = search needs
+
+copy-data-requires : tie.Need-copy-data-requires
+copy-data-requires c κs = let k = composed (c .before .before .before .before .before .before) in (k .inside, k .fits)
+
+write-reply-requires : tie.Need-write-reply-requires
+write-reply-requires c κs = search needs
+
+answer-with-requires : tie.Need-answer-with-requires
+answer-with-requires c κs = search needs
+
+same-length-3 : tie.Need-same-length-3
+same-length-3 c = search needs
+
+same-length-4 : tie.Need-same-length-4
+same-length-4 c = search needs
+
+returns-2 : tie.Need-returns-2
+returns-2 c =
+    let w = c .before .before .before .before in
+    let d = w .before .before .before .before in
     let t = d .before .before in
     let l = t .before in
-    let f = l .before .before .before in
-    let s = f .before .before .before .before .before in
+    let p = l .before .before .before .before in
+    let s = p .before .before .before .before .before .before .before .before .before .before in
     let a = s .args in
-    let q = f .plan-feed .result in
-    let k = f .plan-feed .ensures in
-    let room = k .takes (r .write-reply .ensures .1) in
-    record {
-      said =
-          (λ i.
-          record {
-            event = eventOf (q .event) (q .setup) (t .dropped-tickets .ensures i);
-            setup = q .setup;
-            dropped = t .dropped-tickets .ensures i;
-            used = q .consumed;
-            written = wrote-count (replyBytes (a .self .table) (q .reply)) (a .reply .now) _ (r .write-reply .result) room (r .write-reply .ensures .0) i;
-            buffers = lent (d .copy-data .ensures i) (wrote-all (replyBytes (a .self .table) (q .reply)) (a .reply .now) _ (r .write-reply .result) room (r .write-reply .ensures .0) i);
-            next = viewOf (whole (a .self .table) (q .link) (l .changed-list .ensures i));
-          })
-          ∙ k .fed (lent (a .work .now) (a .reply .now)) refl refl;
-      same = λ n z. next-same (a .self) (q .link) (l .changed-list .result) (q .change) (q .setup) (l .changed-list .ensures) (k .same n z);
-      tidy = λ z. next-tidy (a .self) (q .link) (l .changed-list .result) (q .change) (q .setup) (l .changed-list .ensures) (k .tidy z);
-    }
+    let r = p .plan-piece .result in
+    rw (c .answer-with .ensures)
+    (feeds-by (a .self) (a .piece .now) (lent (a .work .now) (a .reply .now)) (lent _ _) r (replyBytes (r .reply)) (l .changed .result) (t .tickets .result)
+    (w .write-reply .result) (arrays s .1) (composed p) (l .changed .ensures) (t .tickets .ensures) (d .copy-data .ensures) (w .write-reply .ensures .0)
+    (w .write-reply .ensures .1))
 
 pub feed-spec : {M : Type 1} → statement M
 feed-spec =
     tie.close
     (tie.spec
-    plan-feed-requires
-    changed-list-requires
-    dropped-tickets-requires
-    copy-data-requires
-    write-reply-requires
+    feed-request-requires
     same-length
     same-length-2
-    returns)
+    returns
+    ask-requires
+    look-requires
+    plan-piece-requires
+    changed-requires
+    tickets-requires
+    copy-data-requires
+    write-reply-requires
+    answer-with-requires
+    same-length-3
+    same-length-4
+    returns-2)

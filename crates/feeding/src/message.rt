@@ -1,0 +1,129 @@
+// The plan for a piece of a session that doesn't wait, from values alone.
+use crate::ask::Asked;
+use events::message::plan_broken;
+use events::message::plan_hungry;
+use events::message::plan_submitted;
+use events::message::plan_unlinked;
+use events::plan::Plan;
+use events::plan::plan_refused;
+use limits::ATTACHED;
+use links::guard::phase_of;
+use links::link::Link;
+use links::link::Progress;
+use messages::message::Header;
+use messages::message::body_len;
+use pending::look::Look;
+use verdicts::verdict::Admission;
+use verdicts::verdict::Reading;
+use verdicts::verdict::feed_refusal;
+use verdicts::verdict::header_fault;
+use wire::codes::CMD_SUBMIT;
+use wire::codes::HEADER_LEN;
+ghost use Prim.Native.Nat.{_-_};
+ghost use mathlib.Core.Path.{_≡_};
+ghost use Rattle.feeding.specs.Planning.{submitPlan, bodyPlan, headerPlan, attachedPlan, messagePlan};
+
+// What is left of a length behind a place.
+fn rest(len: usize, at: usize) -> usize
+    ensures { λ r. ⌜ r ≡ len - at ⌝ }
+{
+    if len < at {
+        return 0;
+    }
+    len - at
+}
+
+// A submit's data, from a place of the piece on: it goes to the work buffer at its own position.
+fn plan_body(link: Link, pending: usize, p: Progress, at: usize, len: usize) -> Plan
+    ensures { λ r. ⌜ r ≡ bodyPlan link pending p at len ⌝ }
+{
+    let h = p.header;
+    let body = p.body;
+    let need = rest(body_len(h) as usize, body);
+    let left = rest(len, at);
+    if left < need {
+        let q = Progress {
+            body: body + left,
+            ..p
+        };
+        let wait = plan_hungry(link, pending, q, len);
+        return Plan {
+            body: body,
+            from: at,
+            to: len,
+            ..wait
+        };
+    }
+    let end = at + need;
+    let judged = plan_submitted(link, pending, h, end);
+    Plan {
+        body: body,
+        from: at,
+        to: end,
+        ..judged
+    }
+}
+
+// A submit whose header passed: it ends there, or its data follows.
+fn plan_submit(link: Link, pending: usize, p: Progress, at: usize, len: usize) -> Plan
+    ensures { λ r. ⌜ r ≡ submitPlan link pending p at len ⌝ }
+{
+    let h = p.header;
+    if body_len(h) == 0 {
+        return plan_submitted(link, pending, h, at);
+    }
+    plan_body(link, pending, p, at, len)
+}
+
+// A header that was just read, by what was looked up for it.
+fn plan_header(link: Link, pending: usize, p: Progress, look: Look, at: usize, len: usize) -> Plan
+    ensures { λ r. ⌜ r ≡ headerPlan link pending p look at len ⌝ }
+{
+    let h = p.header;
+    let reading = header_fault(h, look.found);
+    match reading {
+        Reading::Faulty(fault) => plan_broken(link, pending, fault, at),
+        Reading::Sound => {
+            if h.command == CMD_SUBMIT {
+                return plan_submit(link, pending, p, at, len);
+            }
+            plan_unlinked(link, pending, h, look, at)
+        }
+    }
+}
+
+// The bytes of a session that is attached.
+fn plan_attached(link: Link, pending: usize, asked: Asked, look: Look, len: usize) -> Plan
+    ensures { λ r. ⌜ r ≡ attachedPlan link pending asked look len ⌝ }
+{
+    let p = asked.progress;
+    if p.filled < HEADER_LEN {
+        return plan_hungry(link, pending, p, asked.consumed);
+    }
+    if asked.read {
+        return plan_header(link, pending, p, look, asked.consumed, len);
+    }
+    plan_body(link, pending, p, 0, len)
+}
+
+// The plan for a piece of so many bytes, with so many URBs pending and buffers of these lengths, by what the piece asked and what
+// was looked up. (It needs neither the table nor the list.)
+pub fn plan_piece(
+    link: Link,
+    pending: usize,
+    asked: Asked,
+    look: Look,
+    len: usize,
+    work: usize,
+    reply: usize,
+) -> Plan
+    ensures { λ r. ⌜ r ≡ messagePlan link pending asked look len work reply ⌝ }
+{
+    let phase = phase_of(link, pending);
+    let closed = phase != ATTACHED;
+    let admission = feed_refusal(closed, work, reply);
+    match admission {
+        Admission::Refused(number) => plan_refused(link, pending, number),
+        Admission::Admitted => plan_attached(link, pending, asked, look, len),
+    }
+}

@@ -1,0 +1,2 @@
+-- What a reader of this crate must believe: the limits and numbers of 01.
+pub mod Limits

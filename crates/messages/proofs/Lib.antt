@@ -1,0 +1,2 @@
+-- What the fields of a header say, by the message's bytes.
+pub mod Headers

@@ -1,0 +1,214 @@
+-- The acts of a session: what each answers, writes and leaves (PROTOCOL.md, 3 and 4).
+use Prim.Native.Nat.{ℕ}
+use mathlib.Core.Bool.{Bool, true, false}
+use mathlib.Core.List.{List, [], _∷_, _++_}
+use mathlib.Core.Option.{Option, none, some}
+use lib.Dec.{eqb}
+use lib.ListN.{length, set, getD}
+use Rattle.ground.specs.Writing.{over}
+use Rattle.messages.specs.Messages.{retSubmit, retUnlink, unlinkSeqnum}
+use Rattle.messages.specs.declared.message.Transfer.{Transfer}
+use Rattle.exports.specs.Devices.{noDevice, devicesOf}
+use Rattle.exports.specs.declared.device.Device.{Device}
+use Rattle.exports.specs.declared.device.Table.{Table}
+use Rattle.tables.specs.Tables.{goodTable}
+use Rattle.lookup.specs.Lookup.{devidOf}
+use Rattle.lookup.specs.declared.Found.{Found}
+use Rattle.lookup.specs.declared.Found.the-variants.{At, Nothing}
+use Rattle.importing.specs.Imports.{importReply, importRefusal}
+use Rattle.listing.specs.Lists.{listReply}
+use Rattle.transmit.specs.Part.{wireLength}
+use Rattle.pending.specs.Pending.{noTransfer, ticketOf, seqnumOf, tickets, findBy, found, withoutFirst}
+use Rattle.pending.specs.declared.counts.Counts.{Counts}
+use Rattle.pending.specs.declared.urb.Urb.{Urb}
+use Rattle.limits.specs.Limits
+use Rattle.ground.specs.Tests.{Test, first, decide, pick}
+use Rattle.verdicts.specs.Verdicts
+use Rattle.verdicts.specs.declared.verdict.Completing.{Completing}
+use Rattle.model.specs.Machine.{Fed, feed}
+use Rattle.model.specs.State.{Message, partly, headed, Sess, closed, withLink, withPend, inPhase, withMessage, withCounts, attachedAs, noMessage}
+use Rattle.model.specs.State.{headerIn, End, returned, unlinked, dropped, ended, oneAccepted}
+use Rattle.model.specs.Answers.{Outcome, refused, done, Event, hungry, list, import, submit, answer, unlink, break, isHungry}
+use Rattle.model.specs.Judging.{grow, judge, lookedUp}
+
+-- ## What becomes of the session
+
+-- A URB more is pending.
+abbrev pub accepts : Urb → Sess → Sess
+accepts u s = withPend (s .pend ++ (u ∷ [])) (withLink (withCounts (oneAccepted (s .link .counts)) (s .link)) s)
+
+-- The first URB that has a key is no longer pending.
+abbrev pub settles : (Urb → ℕ) → ℕ → End → Sess → Sess
+settles key k e s = withPend (withoutFirst key k (s .pend)) (withLink (withCounts (ended e 1 (s .link .counts)) (s .link)) s)
+
+-- The session ends; with all that is pending dropped.
+abbrev pub shuts : Sess → Sess
+shuts s = withLink (inPhase Limits.CLOSED (s .link)) s
+
+abbrev pub drops : Sess → Sess
+drops s = shuts (withPend [] (withLink (withCounts (ended dropped (length (s .pend)) (s .link .counts)) (s .link)) s))
+
+-- No message is in progress.
+abbrev pub between : Sess → Sess
+between s = withLink (withMessage noMessage (s .link)) s
+
+abbrev pub deviceOf : Table → Found → Device
+deviceOf t (At i) = getD (devicesOf t) i noDevice
+deviceOf t Nothing = noDevice
+
+abbrev pub attaches : Device → Sess → Sess
+attaches d s = withLink (attachedAs (devidOf d) (s .link)) s
+
+-- An unlink takes out the URB that has its unlink_seqnum.
+abbrev pub afterUnlink : Sess → Option ℕ → Sess
+afterUnlink s none = s
+afterUnlink s (some t) = settles seqnumOf (unlinkSeqnum (headerIn (s .link .message))) unlinked s
+
+-- The session after a feed's event.
+abbrev pub after : Sess → Event → Sess
+after s hungry = s
+after s list = between (shuts s)
+after s (import st) = pick (eqb st 0) (between (attaches (deviceOf (s .table) (lookedUp s)) s)) (between (shuts s))
+after s (submit u) = between (accepts u s)
+after s (answer q st) = between s
+after s (unlink q st t) = between (afterUnlink s t)
+after s (break f ts) = between (drops s)
+
+-- ## The bytes that an event of a feed writes
+
+abbrev pub importBytes : Table → Found → List ℕ
+importBytes t (At i) = importReply (getD (devicesOf t) i noDevice)
+importBytes t Nothing = importRefusal
+
+-- The reply to a URB, with a status and an actual length.
+abbrev pub replyFor : Transfer → (status actual : ℕ) → List ℕ
+replyFor u status actual = retSubmit (record { seqnum = u .seqnum; status = status; actual = actual; start = u .start; packets = u .packets })
+
+-- A refused submit's reply is to the submit whose header is in.
+unfoldable pub replyTo : Sess → Event → List ℕ
+replyTo s hungry = []
+replyTo s list = listReply (s .table)
+replyTo s (import st) = importBytes (s .table) (lookedUp s)
+replyTo s (submit u) = []
+replyTo s (answer q st) = replyFor (headerIn (s .link .message) .transfer) st 0
+replyTo s (unlink q st t) = retUnlink (record { seqnum = q; status = st })
+replyTo s (break f ts) = []
+
+-- ## Feeding
+
+-- The lent buffers.
+pub record Buffers : Type 0 where
+  pub work : List ℕ
+  pub reply : List ℕ
+
+-- "OUT data goes to the work buffer at its own position from 0 as it comes"
+abbrev pub dataPut : Message → ℕ → List ℕ → List ℕ
+dataPut (partly bytes) x work = work
+dataPut (headed h body) x work = set work body x
+
+unfoldable pub put : Sess → ℕ → Buffers → Buffers
+put s x b = record { work = dataPut (s .link .message) x (b .work); reply = b .reply }
+
+-- "A reply starts at 0 of the reply buffer; bytes past it don't change."
+unfoldable pub writeReply : Sess → Event → Buffers → Buffers
+writeReply s e b = record { work = b .work; reply = over (replyTo s e) (b .reply) }
+
+abbrev pub feedBytes : Sess → Buffers → List ℕ → Fed Sess Event Buffers
+feedBytes s b piece = feed grow put judge after writeReply hungry isHungry s b piece
+
+abbrev pub feedTestsOf : Sess → Buffers → List (Test ℕ)
+feedTestsOf s b = Verdicts.feedTests (closed s) (length (b .work)) (length (b .reply))
+
+abbrev pub refusedFeed : Sess → Buffers → ℕ → Fed Sess (Outcome Event) Buffers
+refusedFeed s b n = record { event = refused n; consumed = 0; buffers = b; next = s }
+
+abbrev pub doneFeed : Fed Sess Event Buffers → Fed Sess (Outcome Event) Buffers
+doneFeed r = record { event = done (r .event); consumed = r .consumed; buffers = r .buffers; next = r .next }
+
+-- A feed: on a closed session first, then with buffers that are too small, else byte by byte.
+unfoldable pub feedOf : Sess → Buffers → List ℕ → Fed Sess (Outcome Event) Buffers
+feedOf s b piece = decide (first (feedTestsOf s b)) (refusedFeed s b) (doneFeed (feedBytes s b piece))
+
+-- ## Completing
+
+-- What the device side hands over with a ticket; the payload is its data.
+pub record Completion : Type 0 where
+  pub ticket : ℕ
+  pub status : ℕ
+  pub actual : ℕ
+  pub payload : List ℕ
+  pub header : List ℕ
+
+abbrev pub theTransfer : Option Urb → Transfer
+theTransfer none = noTransfer
+theTransfer (some u) = u .transfer
+
+-- What a completion is judged by; o is what is pending under its ticket.
+abbrev pub completing : Bool → Option Urb → Completion → Completing
+completing closed o c =
+    record {
+      closed = closed;
+      header = length (c .header);
+      found = found o;
+      status = c .status;
+      actual = c .actual;
+      payload = length (c .payload);
+      length = theTransfer o .length;
+      direction = theTransfer o .direction;
+    }
+
+abbrev pub named : Sess → Completion → Option Urb
+named s c = findBy ticketOf (c .ticket) (s .pend)
+
+abbrev pub completionTestsOf : Sess → Completion → List (Test ℕ)
+completionTestsOf s c = Verdicts.completionTests (completing (closed s) (named s c) c)
+
+-- The length of the reply on the wire, the header buffer at exit, the next session.
+pub record Complete : Type 0 where
+  pub answer : Outcome ℕ
+  pub header : List ℕ
+  pub next : Sess
+
+abbrev pub refusedCompletion : Sess → Completion → ℕ → Complete
+refusedCompletion s c n = record { answer = refused n; header = c .header; next = s }
+
+-- "An accepted completion writes the first 48 header bytes, no others, and answers the wire length"
+unfoldable pub completeOf : Sess → Completion → Complete
+completeOf s c =
+    let u = theTransfer (named s c) in
+    decide (first (completionTestsOf s c)) (refusedCompletion s c)
+    (record {
+      answer = done (wireLength (u .direction) (c .actual));
+      header = over (replyFor u (c .status) (c .actual)) (c .header);
+      next = settles ticketOf (c .ticket) returned s;
+    })
+
+-- ## Closing and opening
+
+-- The tickets of all that was pending.
+pub record Close : Type 0 where
+  pub answer : Outcome (List ℕ)
+  pub next : Sess
+
+unfoldable pub closeOf : Sess → Close
+closeOf s =
+    pick (closed s)
+    (record { answer = refused Limits.SESSION-CLOSED; next = s })
+    (record { answer = done (tickets (s .pend)); next = between (drops s) })
+
+pub record Open : Type 0 where
+  pub good : Bool
+  pub next : Sess
+
+abbrev pub noTable : Table → Table
+noTable t = record { devices = t .devices; count = 0 }
+
+abbrev pub fresh : Table → ℕ → Sess
+fresh t phase =
+    let none : Counts = record { accepted = 0; returned = 0; unlinked = 0; dropped = 0 } in
+    record { table = t; link = record { phase = phase; devid = 0; message = noMessage; counts = none }; pend = [] }
+
+-- "2: a closed session, empty table, all counts 0"
+unfoldable pub openOf : Table → Open
+openOf t =
+    pick (goodTable t) (record { good = true; next = fresh t Limits.WAITING }) (record { good = false; next = fresh (noTable t) Limits.CLOSED })

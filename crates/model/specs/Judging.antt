@@ -1,0 +1,104 @@
+-- Which event it is when a byte has just come (PROTOCOL.md, 4 to 6).
+use Prim.Native.Nat.{ℕ, suc, _+_}
+use mathlib.Core.List.{List, [], _∷_, _++_}
+use mathlib.Core.Option.{Option, none, some}
+use lib.Dec.{eqb, ltb}
+use lib.ListN.{length}
+use Rattle.wire.specs.Codes
+use Rattle.wire.specs.Status.{minus}
+use Rattle.messages.specs.Messages.{requestOf, busidOf, headerOf, bodyLen, unlinkSeqnum}
+use Rattle.messages.specs.declared.message.Header.{Header}
+use Rattle.lookup.specs.Lookup.{findIn}
+use Rattle.lookup.specs.declared.Found.{Found}
+use Rattle.lookup.specs.declared.Found.the-variants.{At, Nothing}
+use Rattle.pending.specs.Pending.{ticketOf, seqnumOf, tickets, findBy, found}
+use Rattle.pending.specs.declared.urb.Urb.{Urb}
+use Rattle.limits.specs.Limits
+use Rattle.ground.specs.Tests.{Test, first, decide, pick}
+use Rattle.verdicts.specs.Verdicts
+use Rattle.verdicts.specs.declared.verdict.Fault.{Fault}
+use Rattle.model.specs.State.{Message, partly, headed, Sess, bytesIn, withLink, withMessage}
+use Rattle.model.specs.Answers.{Event, hungry, list, import, submit, answer, unlink, break}
+
+-- ## A byte comes
+
+-- The first 48 bytes of a message make its header, which is read once; the others are its body's.
+abbrev pub grownBy : Message → ℕ → Message
+grownBy (partly bytes) x =
+    let m = bytes ++ (x ∷ []) in
+    pick (ltb (length m) Codes.HEADER-LEN) (partly m) (headed (headerOf m) 0)
+grownBy (headed h body) x = headed h (suc body)
+
+unfoldable pub grow : Sess → ℕ → Sess
+grow s x = withLink (withMessage (grownBy (s .link .message) x) (s .link)) s
+
+-- ## Messages
+
+-- The record of a submit under a ticket.
+abbrev pub urbOf : ℕ → Header → Urb
+urbOf t h = record { ticket = t; transfer = h .transfer; setup = h .setup }
+
+-- A break lists the tickets of all that is pending.
+abbrev pub breaks : Sess → Fault → Event
+breaks s f = break f (tickets (s .pend))
+
+abbrev pub submitTestsOf : Header → Sess → List (Test ℕ)
+submitTestsOf h s = Verdicts.submitTests h (s .link .devid) (length (s .pend)) (s .link .counts .accepted)
+
+-- The last byte of a submit is in.
+unfoldable pub submitted : Sess → Header → Event
+submitted s h =
+    decide (first (submitTestsOf h s)) (answer (h .transfer .seqnum))
+    (submit (urbOf (suc (s .link .counts .accepted)) h))
+
+-- A submit whose header passed waits for its body.
+unfoldable pub submitting : Sess → Header → ℕ → Event
+submitting s h body = pick (ltb body (bodyLen h)) hungry (submitted s h)
+
+-- "-104 and removes the URB exactly if unlink_seqnum is pending; otherwise 0"
+abbrev pub unlinks : ℕ → Option Urb → Event
+unlinks q none = unlink q 0 none
+unlinks q (some u) = unlink q (minus Codes.ECONNRESET) (some (ticketOf u))
+
+-- By the pending URBs: 16 asks for the submit's own seqnum.
+abbrev pub headerTestsOf : Header → List Urb → List (Test Fault)
+headerTestsOf h pend = Verdicts.headerTests h (found (findBy seqnumOf (h .transfer .seqnum) pend))
+
+-- The 48th byte of a message is in.
+unfoldable pub wholeHeader : Sess → Header → Event
+wholeHeader s h =
+    decide (first (headerTestsOf h (s .pend))) (breaks s)
+    (pick (eqb (h .command) Codes.CMD-SUBMIT) (submitting s h 0)
+    (unlinks (h .transfer .seqnum) (findBy seqnumOf (unlinkSeqnum h) (s .pend))))
+
+unfoldable pub message : Sess → Message → Event
+message s (partly bytes) = hungry
+message s (headed h body) = pick (eqb body 0) (wholeHeader s h) (submitting s h body)
+
+-- ## Requests
+
+-- The 8th byte of a request is in: a list request ends there.
+unfoldable pub requested : Sess → List ℕ → Event
+requested s m =
+    decide (first (Verdicts.requestTests (requestOf m))) (breaks s)
+    (pick (eqb (requestOf m .code) Codes.OP-REQ-DEVLIST) list hungry)
+
+-- The device that an import names, if the table has it.
+unfoldable pub lookedUp : Sess → Found
+lookedUp s = findIn (s .table) (busidOf (bytesIn (s .link .message)))
+
+abbrev pub imports : Found → Event
+imports (At i) = import 0
+imports Nothing = import 1
+
+-- An import ends with its busid. (No request gets as far as a header.)
+unfoldable pub request : Sess → Message → Event
+request s (partly m) =
+    pick (ltb (length m) Codes.OP-LEN) hungry
+    (pick (eqb (length m) Codes.OP-LEN) (requested s m)
+    (pick (ltb (length m) (Codes.OP-LEN + Codes.BUSID-LEN)) hungry
+    (imports (lookedUp s))))
+request s (headed h body) = imports (lookedUp s)
+
+unfoldable pub judge : Sess → Event
+judge s = pick (eqb (s .link .phase) Limits.WAITING) (request s (s .link .message)) (message s (s .link .message))

@@ -1,0 +1,12 @@
+use borrow.Author.Needs.{needs}
+use Rattle.pending.proofs.urb.Urb.blank.Statement.{statement}
+use Rattle.pending.proofs.urb.Urb.blank.Tie as tie
+
+no-transfer-requires : tie.Need-no-transfer-requires
+no-transfer-requires c κs = search needs
+
+returns : tie.Need-returns
+returns c = rw (c .no-transfer .ensures)
+
+pub blank-spec : {M : Type 1} → statement M
+blank-spec = tie.close (tie.spec no-transfer-requires returns)

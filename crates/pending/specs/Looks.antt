@@ -1,0 +1,33 @@
+-- What is looked up in the list of pending URBs.
+use Prim.Native.Nat.{ℕ}
+use mathlib.Core.Bool.{Bool, true, false, cond}
+use mathlib.Core.List.{List}
+use lib.ListN.{getD}
+use Rattle.pending.specs.declared.urb.Urb.{Urb}
+use Rattle.pending.specs.declared.look.Look.{Look}
+use Rattle.pending.specs.declared.look.Key.{Key}
+use Rattle.pending.specs.declared.look.Key.the-variants.{Nothing as NoKey, Seqnum, Ticket}
+use Rattle.limits.specs.Limits.{MAX-PENDING}
+use Rattle.pending.specs.Pending.{ticketOf, seqnumOf, noTransfer, noUrb, Place, At, Nothing, placeBy}
+
+-- A URB's ticket or its seqnum.
+abbrev pub keyOf : (ticket : Bool) → Urb → ℕ
+keyOf ticket u = cond ticket (ticketOf u) (seqnumOf u)
+
+-- None was found.
+abbrev pub noLook : Look
+noLook = record { found = false; place = MAX-PENDING; ticket = 0; transfer = noTransfer }
+
+-- What is seen at a place.
+abbrev pub lookAt : List Urb → Place → Look
+lookAt us Nothing = noLook
+lookAt us (At i) = record { found = true; place = i; ticket = ticketOf (getD us i noUrb); transfer = getD us i noUrb .transfer }
+
+-- The first that has a key.
+abbrev pub lookBy : (Urb → ℕ) → ℕ → List Urb → Look
+lookBy key k us = lookAt us (placeBy key k us)
+
+abbrev pub lookFor : List Urb → Key → Look
+lookFor us NoKey = noLook
+lookFor us (Seqnum q) = lookBy seqnumOf q us
+lookFor us (Ticket t) = lookBy ticketOf t us
