@@ -63,9 +63,9 @@ returns c =
     let r = p .plan-request .result in
     rw (c .answer-with .ensures)
     (feeds-by (a .self) (a .piece .now) (lent (a .work .now) (a .reply .now)) (lent _ _) (r .plan) (requestBytes (a .self .table) (r .reply))
-    (l .changed .result) (t .tickets .result) (w .write-request-reply .result) (arrays s .1) (composed p) (l .changed .ensures) (t .tickets .ensures) (d .copy-data .ensures)
-    (w .write-request-reply .ensures .0)
-    (w .write-request-reply .ensures .1))
+    (l .changed .result) (t .tickets .result) (w .write-request-reply .result) (arrays s .1) (composed p)
+    (l .changed .ensures) (t .tickets .ensures) (d .copy-data .ensures)
+    (w .write-request-reply .ensures .0) (w .write-request-reply .ensures .1))
 
 pub feed-request-spec : {M : Type 1} → statement M
 feed-request-spec =
