@@ -190,9 +190,3 @@ carriedWith bytes t l r piece b =
       buffers = lent (sets (b .work) (r .body) (dataOf r piece)) (over bytes (b .reply));
       next = viewOfParts (partsAfter t l r);
     }
-
-abbrev pub carried : Table → Pending → Plan → List ℕ → Buffers → Result
-carried t l r piece b = carriedWith (replyBytes (r .reply)) t l r piece b
-
-abbrev pub carriedRequest : Table → Pending → RequestPlan → List ℕ → Buffers → Result
-carriedRequest t l r piece b = carriedWith (requestBytes t (r .reply)) t l (r .plan) piece b

@@ -5,12 +5,9 @@ use mathlib.Core.Path.{_≡_, refl, sym, _∙_}
 use mathlib.Core.Bool.{Bool, true, false, cond, not, _&&_, _||_, true≢false}
 use lib.Dec.{eqb, leb, ltb}
 use borrow.Author.Tests.{eqb-true, eqb-false, eq-eqb, ne-eqb, le-leb, lt-leb, leb-true, lt-ltb, le-ltb, ltb-true}
-use lib.ListN.{length, length-take}
 use Rattle.wire.specs.Codes
 use Rattle.messages.specs.Messages.{bodyLen}
-use Rattle.pending.specs.Pending.{listOf}
 use Rattle.pending.specs.declared.counts.Counts.{Counts}
-use Rattle.pending.specs.declared.list.Pending.{Pending}
 use Rattle.limits.specs.Limits
 use Rattle.links.specs.Links.{Parts, countsFit, attachedFits, progressFits, phaseOf, plus, Attached}
 use Rattle.links.specs.declared.link.Progress.{Progress}
@@ -141,11 +138,3 @@ plus-fits count more limit l h = rw (le-leb (count + more) Limits.LAST-TICKET (o
 -- an attached session has no more pending than there is room for
 pub few : (s : Parts) → Attached s → s .pending .count ≤ Limits.MAX-PENDING
 few s h = counts-known (s .link .counts) (s .pending .count) (h .0) .0
-
--- what is pending isn't ended yet
-pub one-pending : (c : Counts) (list : Pending) (i : ℕ) → countsFit c (list .count) ≡ true → i < length (listOf list)
-    → (c .returned < c .accepted) × (c .unlinked < c .accepted)
-one-pending c list i h e =
-    let n = counts-known c (list .count) h in
-    let m = length-take (list .count) (list .urbs) in
-    (omega (arith, n .1, e, m), omega (arith, n .1, e, m))

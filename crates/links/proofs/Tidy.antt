@@ -1,9 +1,9 @@
 -- What the view hides.
 use Prim.Native.Nat.{ℕ, _-_, _≤_, _<_}
 use native.Mathlib.Omega.{arith}
-use mathlib.Core.Path.{_≡_, refl, sym, ap, subst, _∙_}
+use mathlib.Core.Path.{_≡_, refl, sym, ap, _∙_}
 use mathlib.Core.Bool.{Bool, true, false}
-use mathlib.Core.List.{List, _++_}
+use mathlib.Core.List.{_++_}
 use borrow.Author.Tests.{ltb-true, ltb-false}
 use lib.Dec.{ltb}
 use lib.ListN.{length, take, replicate, take-append-drop}
@@ -12,11 +12,9 @@ use Rattle.wire.specs.Codes
 use Rattle.messages.specs.Messages.{blankHeader}
 use Rattle.messages.specs.declared.message.Header.{Header}
 use Rattle.pending.proofs.Laws.{sound-view}
-use Rattle.pending.specs.declared.counts.Counts.{Counts}
 use Rattle.model.specs.State.{Message, partly, headed, Sess}
-use Rattle.links.specs.Links.{messageOf, noProgress, bodied, resting, Padded, OneStruct}
+use Rattle.links.specs.Links.{messageOf, noProgress, bodied, Padded, OneStruct}
 use Rattle.links.specs.declared.link.Progress.{Progress}
-use Rattle.links.specs.declared.link.Link.{Link}
 use Rattle.links.proofs.Views.{message-partly, message-headed}
 
 -- ## A header
@@ -27,9 +25,6 @@ none-padded = record { size = refl; fits = omega arith; grows = λ l. (refl, ref
 
 pub read-padded : (h : Header) (body : ℕ) → Padded (bodied h body)
 read-padded h body = record { size = refl; fits = omega arith; grows = λ l. absurd (omega arith); read = λ e. refl }
-
-pub rest-padded : (k : Link) (phase devid : ℕ) (c : Counts) → k ≡ resting phase devid c → Padded (k .progress)
-rest-padded k phase devid c e = subst (λ (z : Link). Padded (z .progress)) (sym e) none-padded
 
 -- the progress that a message is
 abbrev progressOf : Message → Progress

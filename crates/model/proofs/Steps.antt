@@ -19,7 +19,7 @@ use Rattle.pending.proofs.Finding.{find-some}
 use Rattle.limits.specs.Limits
 use Rattle.model.specs.State.{Message, partly, headed, Sess, bytesIn, headerIn, room, place, End, returned, unlinked, dropped, ended}
 use Rattle.model.specs.Judging.{grownBy, grow}
-use Rattle.model.specs.Acts.{accepts, settles, shuts, drops, between}
+use Rattle.model.specs.Acts.{accepts, settles, shuts, drops}
 use Rattle.model.specs.Book.{Book, Item, item, pending, withPart, took, mark, markAll, pendingOf, sameEnd, count, Effect, add, settle, drop-all, shut}
 use Rattle.model.specs.Book.{nothing, apply}
 use Rattle.model.specs.Claims.{header, placeOf, Counted, Distinct, Apart, Grown, Settled, Emptied}
@@ -107,10 +107,6 @@ sessionOf t phase devid b =
 pub grow-is : (t : Table) (phase devid : ℕ) (b : Book) (x : ℕ) → grow (sessionOf t phase devid b) x ≡ sessionOf t phase devid (took b (x ∷ []))
 unfolding grow
 grow-is t phase devid b x = cc (grown (b .part) x)
-
--- no message in progress
-pub between-is : (t : Table) (phase devid : ℕ) (b : Book) → between (sessionOf t phase devid b) ≡ sessionOf t phase devid (withPart [] b)
-between-is t phase devid b = refl
 
 -- ## What every run keeps of a book beside its session's phase
 
