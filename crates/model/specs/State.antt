@@ -1,6 +1,6 @@
 -- The state of a session, nested as the code has it: the export table, the link to the client, the pending URBs (PROTOCOL.md, 2 and 3).
 use Prim.Native.Nat.{ℕ, suc, _+_, _-_}
-use mathlib.Core.Bool.{Bool}
+use mathlib.Core.Bool.{Bool, cond}
 use mathlib.Core.List.{List, []}
 use lib.Dec.{eqb}
 use lib.ListN.{length}
@@ -41,6 +41,10 @@ abbrev pub numbersOf : Sess → Numbers
 numbersOf s =
     let c = s .link .counts in
     record { accepted = c .accepted; pending = length (s .pend); returned = c .returned; unlinked = c .unlinked; dropped = c .dropped }
+
+-- The device that is served, by its devid; 0 while none is attached.
+abbrev pub servedDevid : Sess → ℕ
+servedDevid s = cond (eqb (s .link .phase) Limits.ATTACHED) (s .link .devid) 0
 
 -- ## The same state with a part replaced
 

@@ -1,4 +1,4 @@
-// The acts of a session: open, feed, complete, close; and its numbers. Each act takes the session and hands back the next: what
+// The acts of a session: open, feed, complete, close; its numbers and its device. Each act takes the session and hands back the next: what
 // must be looked up is asked and looked up once, what will be done is planned from values, and then it is carried out.
 use crate::answer::Closed;
 use crate::answer::Completed;
@@ -16,9 +16,11 @@ use exports::device::Table;
 use feeding::ask::ask;
 use feeding::message::plan_piece;
 use feeding::request::plan_request;
+use limits::ATTACHED;
 use limits::BAD_TABLE;
 use limits::CLOSED;
 use limits::WAITING;
+use links::guard::phase_of;
 use links::link::fresh_link;
 use pending::counts::Numbers;
 use pending::list::Pending;
@@ -30,7 +32,7 @@ use tables::is_good;
 use wire::codes::SETUP_LEN;
 ghost use mathlib.Core.Path.{_≡_};
 ghost use Rattle.limits.specs.Limits;
-ghost use Rattle.model.specs.State.{numbersOf};
+ghost use Rattle.model.specs.State.{numbersOf, servedDevid};
 ghost use Rattle.model.specs.Cut.{lent};
 ghost use Rattle.session.specs.Views.{viewOf, freshSession, handed};
 ghost use Rattle.session.specs.Acts.{Opens, Feeds, Completes, Closes};
@@ -221,5 +223,17 @@ impl Session {
             unlinked: counts.unlinked,
             dropped: counts.dropped,
         }
+    }
+
+    // The devid of the device that is attached, by which a host knows which one it serves; 0 while none is.
+    pub fn devid(self) -> u64
+        ensures { λ r. ⌜ r ≡ servedDevid (viewOf self) ⌝ }
+    {
+        let link = self.link;
+        let list = self.pending;
+        if phase_of(link, list.count) == ATTACHED {
+            return link.devid;
+        }
+        0
     }
 }

@@ -1,0 +1,2 @@
+-- Why the C functions are what specs/ says.
+pub mod Places

@@ -1,0 +1,171 @@
+-- An answer as numbers, a row for each of its cases.
+use Prim.Native.Nat.{ℕ, _-_}
+use mathlib.Core.Bool.{cond}
+use mathlib.Core.List.{List}
+use lib.Dec.{eqb, ltb}
+use lib.ListN.{length, take, drop}
+use Rattle.wire.specs.Codes.{HEADER-LEN}
+use Rattle.limits.specs.Limits
+use Rattle.messages.specs.declared.message.Transfer.{Transfer}
+use Rattle.pending.specs.Pending.{noTransfer}
+use Rattle.pending.specs.declared.counts.Numbers.{Numbers}
+use Rattle.events.specs.declared.answer.Opening.{Opening}
+use Rattle.events.specs.declared.answer.Opening.the-variants.{Ready, Refused as OpeningRefused}
+use Rattle.events.specs.declared.answer.Removed.{Removed}
+use Rattle.events.specs.declared.answer.Removed.the-variants.{Ticket, Nothing}
+use Rattle.events.specs.declared.answer.Event.{Event}
+use Rattle.events.specs.declared.answer.Event.the-variants.{Hungry, List as Listed, Import, Submit, Answer, Unlink, Break, Refused}
+use Rattle.events.specs.declared.answer.Completion.{Completion}
+use Rattle.events.specs.declared.answer.Completion.the-variants.{Return, Refused as CompletionRefused}
+use Rattle.events.specs.declared.answer.Closing.{Closing}
+use Rattle.events.specs.declared.answer.Closing.the-variants.{End, Refused as ClosingRefused}
+use Rattle.session.specs.declared.answer.Opened.{Opened}
+use Rattle.session.specs.declared.answer.Fed.{Fed}
+use Rattle.session.specs.declared.answer.Completed.{Completed}
+use Rattle.session.specs.declared.answer.Closed.{Closed}
+use Rattle.capi.specs.declared.flat.FlatEvent.{FlatEvent}
+use Rattle.capi.specs.declared.flat.FlatOpened.{FlatOpened}
+use Rattle.capi.specs.declared.flat.FlatFed.{FlatFed}
+use Rattle.capi.specs.declared.flat.FlatCompleted.{FlatCompleted}
+use Rattle.capi.specs.declared.flat.FlatClosed.{FlatClosed}
+use Rattle.capi.specs.declared.flat.FlatNumbers.{FlatNumbers}
+use Rattle.capi.specs.declared.sending.FlatPart.{FlatPart}
+use Rattle.capi.specs.declared.about.FlatLimits.{FlatLimits}
+
+-- ## Events
+
+-- The kinds.
+abbrev pub HUNGRY : ℕ
+HUNGRY = 0
+
+abbrev pub LIST : ℕ
+LIST = 1
+
+abbrev pub IMPORT : ℕ
+IMPORT = 2
+
+abbrev pub SUBMIT : ℕ
+SUBMIT = 3
+
+abbrev pub ANSWER : ℕ
+ANSWER = 4
+
+abbrev pub UNLINK : ℕ
+UNLINK = 5
+
+abbrev pub BREAK : ℕ
+BREAK = 6
+
+abbrev pub REFUSED : ℕ
+REFUSED = 7
+
+abbrev pub eventRow : (kind number status seqnum removed ticket : ℕ) → Transfer → (setup : List ℕ) → FlatEvent
+eventRow kind number status seqnum removed ticket transfer setup =
+    record {
+      kind = kind;
+      number = number;
+      status = status;
+      seqnum = seqnum;
+      removed = removed;
+      ticket = ticket;
+      transfer = transfer;
+      setup = setup;
+    }
+
+-- Tickets count from 1, so that 0 is none.
+abbrev pub removedTicket : Removed → ℕ
+removedTicket (Ticket t) = t
+removedTicket Nothing = 0
+
+-- What an event doesn't have is 0.     kind    number      status  seqnum  removed            ticket  transfer
+abbrev pub flatEvent : Event → List ℕ → FlatEvent
+flatEvent Hungry setup = eventRow HUNGRY 0 0 0 0 0 noTransfer setup
+flatEvent Listed setup = eventRow LIST 0 0 0 0 0 noTransfer setup
+flatEvent (Import st) setup = eventRow IMPORT 0 st 0 0 0 noTransfer setup
+flatEvent (Submit t u) setup = eventRow SUBMIT 0 0 0 0 t u setup
+flatEvent (Answer q st) setup = eventRow ANSWER 0 st q 0 0 noTransfer setup
+flatEvent (Unlink q st r) setup = eventRow UNLINK 0 st q (removedTicket r) 0 noTransfer setup
+flatEvent (Break f) setup = eventRow BREAK (f .number) 0 0 0 0 noTransfer setup
+flatEvent (Refused n) setup = eventRow REFUSED n 0 0 0 0 noTransfer setup
+
+-- ## What the acts hand back: 0, or a refusal's number
+
+abbrev pub openingNumber : Opening → ℕ
+openingNumber Ready = 0
+openingNumber (OpeningRefused n) = n
+
+abbrev pub completionNumber : Completion → ℕ
+completionNumber (Return n) = 0
+completionNumber (CompletionRefused n) = n
+
+abbrev pub completionLength : Completion → ℕ
+completionLength (Return n) = n
+completionLength (CompletionRefused n) = 0
+
+abbrev pub closingNumber : Closing → ℕ
+closingNumber End = 0
+closingNumber (ClosingRefused n) = n
+
+abbrev pub flatOpened : Opened → FlatOpened
+flatOpened r = record { session = r .session; refusal = openingNumber (r .answer) }
+
+abbrev pub flatFed : Fed → FlatFed
+flatFed r =
+    let a = r .answer in
+    record {
+      session = r .session;
+      event = flatEvent (a .event) (a .setup);
+      consumed = a .consumed;
+      length = a .length;
+      dropped = r .dropped;
+    }
+
+abbrev pub flatCompleted : Completed → FlatCompleted
+flatCompleted r =
+    record { session = r .session; refusal = completionNumber (r .answer); length = completionLength (r .answer) }
+
+abbrev pub flatClosed : Closed → FlatClosed
+flatClosed r = record { session = r .session; refusal = closingNumber (r .answer); dropped = r .dropped }
+
+abbrev pub flatNumbers : Numbers → FlatNumbers
+flatNumbers n =
+    record { accepted = n .accepted; pending = n .pending; returned = n .returned; unlinked = n .unlinked; dropped = n .dropped }
+
+-- ## Sending
+
+abbrev pub OF-HEADER : ℕ
+OF-HEADER = 0
+
+abbrev pub OF-PAYLOAD : ℕ
+OF-PAYLOAD = 1
+
+abbrev pub partRow : (slice at size : ℕ) → FlatPart
+partRow slice at size = record { slice = slice; at = at; length = size }
+
+-- Where a part of so many bytes stands, when `sent` are out; an empty one stands at the header's start.
+abbrev pub flatPart : (size sent : ℕ) → FlatPart
+flatPart size sent =
+    cond (eqb size 0) (partRow OF-HEADER 0 0)
+    (cond (ltb sent HEADER-LEN) (partRow OF-HEADER sent size) (partRow OF-PAYLOAD (sent - HEADER-LEN) size))
+
+-- The bytes that stand there.
+abbrev pub bytesAt : FlatPart → (header payload : List ℕ) → List ℕ
+bytesAt p header payload = take (p .length) (drop (p .at) (cond (eqb (p .slice) OF-HEADER) header payload))
+
+-- ## About the archive
+
+-- It rises with each change of a function, a struct or an answer.
+abbrev pub VERSION : ℕ
+VERSION = 1
+
+abbrev pub flatLimits : FlatLimits
+flatLimits =
+    record {
+      devices = Limits.MAX-DEVICES;
+      interfaces = Limits.MAX-INTERFACES;
+      pending = Limits.MAX-PENDING;
+      transfer = Limits.MAX-TRANSFER;
+      work = Limits.WORK-LEN;
+      reply = Limits.REPLY-LEN;
+      header = HEADER-LEN;
+    }

@@ -1,0 +1,47 @@
+// The limits that this archive was built with, and the version of its face.
+use limits::MAX_DEVICES;
+use limits::MAX_INTERFACES;
+use limits::MAX_PENDING;
+use limits::MAX_TRANSFER;
+use limits::REPLY_LEN;
+use limits::WORK_LEN;
+use wire::codes::HEADER_LEN;
+ghost use mathlib.Core.Path.{_≡_};
+ghost use Rattle.capi.specs.Flat;
+ghost use Rattle.capi.specs.Flat.{flatLimits};
+
+// Rises with each change of a function, a struct or an answer.
+pub const VERSION: u32 = 1;
+
+#[repr(C)]
+pub struct FlatLimits {
+    pub devices: usize,
+    pub interfaces: usize,
+    pub pending: usize,
+    pub transfer: usize,
+    pub work: usize,
+    pub reply: usize,
+    pub header: usize,
+}
+
+#[no_mangle]
+pub extern "C" fn rimemaple_limits() -> FlatLimits
+    ensures { λ r. ⌜ r ≡ flatLimits ⌝ }
+{
+    FlatLimits {
+        devices: MAX_DEVICES,
+        interfaces: MAX_INTERFACES,
+        pending: MAX_PENDING,
+        transfer: MAX_TRANSFER as usize,
+        work: WORK_LEN,
+        reply: REPLY_LEN,
+        header: HEADER_LEN,
+    }
+}
+
+#[no_mangle]
+pub extern "C" fn rimemaple_version() -> u32
+    ensures { λ r. ⌜ r ≡ Flat.VERSION ⌝ }
+{
+    VERSION
+}

@@ -1,0 +1,115 @@
+// The acts of a session, each a call of one that is proved elsewhere.
+use crate::flat::FlatClosed;
+use crate::flat::FlatCompleted;
+use crate::flat::FlatFed;
+use crate::flat::FlatNumbers;
+use crate::flat::FlatOpened;
+use crate::flat::closing_number;
+use crate::flat::completion_length;
+use crate::flat::completion_number;
+use crate::flat::flat_event;
+use crate::flat::opening_number;
+use exports::device::Table;
+use session::state::Session;
+ghost use mathlib.Core.Path.{_≡_};
+ghost use Rattle.model.specs.State.{numbersOf, servedDevid};
+ghost use Rattle.model.specs.Cut.{lent};
+ghost use Rattle.session.specs.Views.{viewOf, handed};
+ghost use Rattle.capi.specs.Flat.{flatNumbers};
+ghost use Rattle.capi.specs.Faces.{OpensFlat, FeedsFlat, CompletesFlat, ClosesFlat};
+
+#[no_mangle]
+pub extern "C" fn rimemaple_open(table: Table) -> FlatOpened
+    ensures { λ r. ⌜ OpensFlat table r ⌝ }
+{
+    let opened = Session::open(table);
+    let next = opened.session;
+    let answer = opened.answer;
+    FlatOpened {
+        session: next,
+        refusal: opening_number(answer),
+    }
+}
+
+#[no_mangle]
+pub extern "C" fn rimemaple_feed(
+    session: Session,
+    piece: &[u8],
+    work: &mut [u8],
+    reply: &mut [u8],
+) -> FlatFed
+    ensures { λ r. ⌜ FeedsFlat session (now (piece .entry)) (lent (now (work .entry)) (now (reply .entry))) (lent (now (work .exit)) (now (reply .exit))) r ⌝ }
+{
+    let fed = session.feed(piece, work, reply);
+    let next = fed.session;
+    let answer = fed.answer;
+    let event = answer.event;
+    let setup = answer.setup;
+    let dropped = fed.dropped;
+    FlatFed {
+        session: next,
+        event: flat_event(event, setup),
+        consumed: answer.consumed,
+        length: answer.length,
+        dropped: dropped,
+    }
+}
+
+#[no_mangle]
+pub extern "C" fn rimemaple_complete(
+    session: Session,
+    ticket: u64,
+    status: u32,
+    actual: u32,
+    payload: &[u8],
+    header: &mut [u8],
+) -> FlatCompleted
+    ensures { λ r. ⌜ CompletesFlat session (handed ticket status actual (now (payload .entry)) (now (header .entry))) (now (header .exit)) r ⌝ }
+{
+    let done = session.complete(ticket, status, actual, payload, header);
+    let next = done.session;
+    let answer = done.answer;
+    FlatCompleted {
+        session: next,
+        refusal: completion_number(answer),
+        length: completion_length(answer),
+    }
+}
+
+#[no_mangle]
+pub extern "C" fn rimemaple_close(session: Session) -> FlatClosed
+    ensures { λ r. ⌜ ClosesFlat session r ⌝ }
+{
+    let closed = session.close();
+    let next = closed.session;
+    let answer = closed.answer;
+    let dropped = closed.dropped;
+    FlatClosed {
+        session: next,
+        refusal: closing_number(answer),
+        dropped: dropped,
+    }
+}
+
+// How many URBs were accepted, are pending, were returned, unlinked and dropped.
+#[no_mangle]
+pub extern "C" fn rimemaple_numbers(session: Session) -> FlatNumbers
+    ensures { λ r. ⌜ r ≡ flatNumbers (numbersOf (viewOf session)) ⌝ }
+{
+    let n = session.numbers();
+    FlatNumbers {
+        accepted: n.accepted,
+        pending: n.pending,
+        returned: n.returned,
+        unlinked: n.unlinked,
+        dropped: n.dropped,
+    }
+}
+
+// The devid of the device that is served; 0 while none is attached.
+#[no_mangle]
+pub extern "C" fn rimemaple_devid(session: Session) -> u64
+    ensures { λ r. ⌜ r ≡ servedDevid (viewOf session) ⌝ }
+{
+    session.devid()
+}

@@ -1,0 +1,211 @@
+// Answers as numbers: a C function may not hand back an enum.
+use events::answer::Closing;
+use events::answer::Completion;
+use events::answer::Event;
+use events::answer::Opening;
+use events::answer::Removed;
+use messages::message::Transfer;
+use pending::list::Tickets;
+use session::state::Session;
+use wire::codes::SETUP_LEN;
+ghost use mathlib.Core.Path.{_≡_};
+ghost use Rattle.pending.specs.Pending.{noTransfer};
+ghost use Rattle.capi.specs.Flat.{eventRow, removedTicket, flatEvent, openingNumber, completionNumber, completionLength, closingNumber};
+
+// The kinds of an event.
+pub const HUNGRY: u32 = 0;
+
+pub const LIST: u32 = 1;
+
+pub const IMPORT: u32 = 2;
+
+pub const SUBMIT: u32 = 3;
+
+pub const ANSWER: u32 = 4;
+
+pub const UNLINK: u32 = 5;
+
+pub const BREAK: u32 = 6;
+
+pub const REFUSED: u32 = 7;
+
+// An event: its kind; the number of a refusal or a break; an import's, answer's or unlink's status; an answer's or unlink's seqnum;
+// the ticket that an unlink removed, 0 if none; an accepted submit's ticket, transfer and setup bytes. What an event doesn't have is 0.
+#[repr(C)]
+pub struct FlatEvent {
+    pub kind: u32,
+    pub number: u32,
+    pub status: u32,
+    pub seqnum: u32,
+    pub removed: u64,
+    pub ticket: u64,
+    pub transfer: Transfer,
+    pub setup: [u8; SETUP_LEN],
+}
+
+// What the acts hand back: the next session; a refusal's number, or 0; and what stands beside.
+#[repr(C)]
+pub struct FlatOpened {
+    pub session: Session,
+    pub refusal: u32,
+}
+
+#[repr(C)]
+pub struct FlatFed {
+    pub session: Session,
+    pub event: FlatEvent,
+    pub consumed: usize,
+    pub length: usize,
+    pub dropped: Tickets,
+}
+
+#[repr(C)]
+pub struct FlatCompleted {
+    pub session: Session,
+    pub refusal: u32,
+    pub length: u64,
+}
+
+#[repr(C)]
+pub struct FlatClosed {
+    pub session: Session,
+    pub refusal: u32,
+    pub dropped: Tickets,
+}
+
+#[repr(C)]
+pub struct FlatNumbers {
+    pub accepted: u64,
+    pub pending: u64,
+    pub returned: u64,
+    pub unlinked: u64,
+    pub dropped: u64,
+}
+
+fn no_transfer() -> Transfer
+    ensures { λ r. ⌜ r ≡ noTransfer ⌝ }
+{
+    Transfer {
+        seqnum: 0,
+        direction: 0,
+        ep: 0,
+        flags: 0,
+        length: 0,
+        start: 0,
+        packets: 0,
+        interval: 0,
+    }
+}
+
+// An event that has nothing but its kind.
+fn bare(kind: u32, setup: [u8; SETUP_LEN]) -> FlatEvent
+    ensures { λ r. ⌜ r ≡ eventRow kind 0 0 0 0 0 noTransfer setup ⌝ }
+{
+    FlatEvent {
+        kind: kind,
+        number: 0,
+        status: 0,
+        seqnum: 0,
+        removed: 0,
+        ticket: 0,
+        transfer: no_transfer(),
+        setup: setup,
+    }
+}
+
+fn removed_ticket(removed: Removed) -> u64
+    ensures { λ r. ⌜ r ≡ removedTicket removed ⌝ }
+{
+    match removed {
+        Removed::Ticket(t) => t,
+        Removed::Nothing => 0,
+    }
+}
+
+pub(crate) fn flat_event(event: Event, setup: [u8; SETUP_LEN]) -> FlatEvent
+    ensures { λ r. ⌜ r ≡ flatEvent event setup ⌝ }
+{
+    match event {
+        Event::Hungry => bare(HUNGRY, setup),
+        Event::List => bare(LIST, setup),
+        Event::Import(status) => {
+            let e = bare(IMPORT, setup);
+            FlatEvent {
+                status: status,
+                ..e
+            }
+        }
+        Event::Submit(ticket, transfer) => {
+            let e = bare(SUBMIT, setup);
+            FlatEvent {
+                ticket: ticket,
+                transfer: transfer,
+                ..e
+            }
+        }
+        Event::Answer(seqnum, status) => {
+            let e = bare(ANSWER, setup);
+            FlatEvent {
+                seqnum: seqnum,
+                status: status,
+                ..e
+            }
+        }
+        Event::Unlink(seqnum, status, removed) => {
+            let e = bare(UNLINK, setup);
+            FlatEvent {
+                seqnum: seqnum,
+                status: status,
+                removed: removed_ticket(removed),
+                ..e
+            }
+        }
+        Event::Break(fault) => {
+            let e = bare(BREAK, setup);
+            FlatEvent {
+                number: fault.number,
+                ..e
+            }
+        }
+        Event::Refused(n) => {
+            let e = bare(REFUSED, setup);
+            FlatEvent { number: n, ..e }
+        }
+    }
+}
+
+pub(crate) fn opening_number(answer: Opening) -> u32
+    ensures { λ r. ⌜ r ≡ openingNumber answer ⌝ }
+{
+    match answer {
+        Opening::Ready => 0,
+        Opening::Refused(n) => n,
+    }
+}
+
+pub(crate) fn completion_number(answer: Completion) -> u32
+    ensures { λ r. ⌜ r ≡ completionNumber answer ⌝ }
+{
+    match answer {
+        Completion::Return(_) => 0,
+        Completion::Refused(n) => n,
+    }
+}
+
+pub(crate) fn completion_length(answer: Completion) -> u64
+    ensures { λ r. ⌜ r ≡ completionLength answer ⌝ }
+{
+    match answer {
+        Completion::Return(n) => n,
+        Completion::Refused(_) => 0,
+    }
+}
+
+pub(crate) fn closing_number(answer: Closing) -> u32
+    ensures { λ r. ⌜ r ≡ closingNumber answer ⌝ }
+{
+    match answer {
+        Closing::End => 0,
+        Closing::Refused(n) => n,
+    }
+}
