@@ -1,5 +1,5 @@
-# The two commands of the README.
-.PHONY: run test
+# What the README tells: run and test; the library for C and Rust.
+.PHONY: run test library
 
 # A tape as text (NAME.txt, see reference/README.md), or as bytes.
 TAPE ?= tapes/late-picture.txt
@@ -19,3 +19,10 @@ run:
 # The gate: every proof from nothing, every must-fail edit, every test.
 test:
 	@.ci/run
+
+# Proves the engine and makes the archive of include/rimemaple.h.
+library:
+	@mkdir -p target/lib
+	@rt staticlib capi > target/lib/log 2>&1 || { cat target/lib/log; exit 1; }
+	@cp target/staticlib/libcapi.a target/lib/librimemaple.a
+	@echo "target/lib/librimemaple.a"

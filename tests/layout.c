@@ -1,18 +1,64 @@
 /*
- * The layout that include/rimemaple.h gives each struct: a line `struct size` for each, and `struct.field offset size` for each field.
- * tests/layout.expected has the lines of the version in the header: a field that moves is a new version. That the archive has the same
- * layout is for tests/face.c to show.
+ * Prints the header's constants, and the place and size of each field of its structs. tests/layout.expected has the lines of the version
+ * in the header: a field that moves is a new version. rust/tests/layout.rs compares the Rust package's with them; that the archive has
+ * the same layout is for tests/face.c to show.
  */
 #include "rimemaple.h"
 
 #include <stdio.h>
 
-#define STRUCT(s) printf("%s %lu\n", #s, (unsigned long)sizeof(struct rimemaple_##s))
-#define FIELD(s, f)                                                               \
-    printf("%s.%s %lu %lu\n", #s, #f, (unsigned long)offsetof(struct rimemaple_##s, f), \
-           (unsigned long)sizeof(((struct rimemaple_##s *)0)->f))
+#define CONSTANT(name) printf("%s %llu\n", #name, (unsigned long long)RIMEMAPLE_##name)
+#define STRUCT(name) printf("%s size %zu\n", #name, sizeof(struct rimemaple_##name))
+#define FIELD(name, field)                                                              \
+    printf("%s.%s %zu %zu\n", #name, #field, offsetof(struct rimemaple_##name, field), \
+           sizeof(((struct rimemaple_##name *)0)->field))
 
-static void exported(void)
+static void print_limits(void)
+{
+    CONSTANT(VERSION);
+    CONSTANT(MAX_DEVICES);
+    CONSTANT(MAX_INTERFACES);
+    CONSTANT(MAX_PENDING);
+    CONSTANT(MAX_TRANSFER);
+    CONSTANT(PATH_LEN);
+    CONSTANT(BUSID_LEN);
+    CONSTANT(SETUP_LEN);
+    CONSTANT(WORK_LEN);
+    CONSTANT(REPLY_LEN);
+    CONSTANT(HEADER_LEN);
+    CONSTANT(DIR_OUT);
+    CONSTANT(DIR_IN);
+    CONSTANT(OF_HEADER);
+    CONSTANT(OF_PAYLOAD);
+}
+
+static void print_numbers(void)
+{
+    CONSTANT(HUNGRY);
+    CONSTANT(LIST);
+    CONSTANT(IMPORT);
+    CONSTANT(SUBMIT);
+    CONSTANT(ANSWER);
+    CONSTANT(UNLINK);
+    CONSTANT(BREAK);
+    CONSTANT(REFUSED);
+    CONSTANT(SHORT_BUFFER);
+    CONSTANT(BAD_TABLE);
+    CONSTANT(SESSION_CLOSED);
+    CONSTANT(NOT_PENDING);
+    CONSTANT(STATUS_ABOVE_0);
+    CONSTANT(ACTUAL_TOO_LONG);
+    CONSTANT(SHORT_DATA);
+    CONSTANT(BAD_VERSION);
+    CONSTANT(BAD_CODE);
+    CONSTANT(BAD_COMMAND);
+    CONSTANT(BAD_DIRECTION);
+    CONSTANT(BAD_LENGTH);
+    CONSTANT(BAD_PACKETS);
+    CONSTANT(SEQNUM_PENDING);
+}
+
+static void print_table(void)
 {
     STRUCT(interface);
     FIELD(interface, bInterfaceClass);
@@ -39,7 +85,7 @@ static void exported(void)
     FIELD(table, count);
 }
 
-static void messages(void)
+static void print_message(void)
 {
     STRUCT(transfer);
     FIELD(transfer, seqnum);
@@ -55,15 +101,15 @@ static void messages(void)
     FIELD(header, devid);
     FIELD(header, transfer);
     FIELD(header, setup);
-}
-
-static void state(void)
-{
     STRUCT(progress);
     FIELD(progress, head);
     FIELD(progress, filled);
     FIELD(progress, header);
     FIELD(progress, body);
+}
+
+static void print_session(void)
+{
     STRUCT(counts);
     FIELD(counts, accepted);
     FIELD(counts, returned);
@@ -87,7 +133,7 @@ static void state(void)
     FIELD(session, pending);
 }
 
-static void feeds(void)
+static void print_event(void)
 {
     STRUCT(tickets);
     FIELD(tickets, tickets);
@@ -101,19 +147,19 @@ static void feeds(void)
     FIELD(event, ticket);
     FIELD(event, transfer);
     FIELD(event, setup);
+}
+
+static void print_answers(void)
+{
+    STRUCT(opened);
+    FIELD(opened, session);
+    FIELD(opened, refusal);
     STRUCT(fed);
     FIELD(fed, session);
     FIELD(fed, event);
     FIELD(fed, consumed);
     FIELD(fed, length);
     FIELD(fed, dropped);
-}
-
-static void others(void)
-{
-    STRUCT(opened);
-    FIELD(opened, session);
-    FIELD(opened, refusal);
     STRUCT(completed);
     FIELD(completed, session);
     FIELD(completed, refusal);
@@ -122,6 +168,10 @@ static void others(void)
     FIELD(closed, session);
     FIELD(closed, refusal);
     FIELD(closed, dropped);
+}
+
+static void print_others(void)
+{
     STRUCT(numbers);
     FIELD(numbers, accepted);
     FIELD(numbers, pending);
@@ -132,10 +182,6 @@ static void others(void)
     FIELD(part, slice);
     FIELD(part, at);
     FIELD(part, length);
-}
-
-static void limits(void)
-{
     STRUCT(limits);
     FIELD(limits, devices);
     FIELD(limits, interfaces);
@@ -148,12 +194,13 @@ static void limits(void)
 
 int main(void)
 {
-    printf("version %d\n", RIMEMAPLE_VERSION);
-    exported();
-    messages();
-    state();
-    feeds();
-    others();
-    limits();
+    print_limits();
+    print_numbers();
+    print_table();
+    print_message();
+    print_session();
+    print_event();
+    print_answers();
+    print_others();
     return 0;
 }

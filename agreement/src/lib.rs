@@ -1,8 +1,8 @@
-//! What the tests share: the proved engine behind safe functions, the answers of `reference` in the same form, tables and
-//! messages to ask both about, and a count of what was reached.
+//! What the tests share: a session of the library beside one of `reference`, tables and messages to ask both about, and
+//! a count of what was reached.
 
-pub mod answers;
+mod answers;
 pub mod client;
-pub mod engine;
+pub mod pair;
 pub mod reached;
 pub mod tables;

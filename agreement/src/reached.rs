@@ -1,5 +1,6 @@
 //! What a test reached, so that one that reaches too little fails.
 
+use rimemaple::{Event, Fed, Refusal};
 use std::collections::BTreeMap;
 
 #[derive(Default)]
@@ -10,24 +11,60 @@ impl Reached {
         *self.0.entry(kind.into()).or_default() += 1;
     }
 
-    pub fn count(&self, kind: &str) -> usize {
-        self.0.get(kind).copied().unwrap_or(0)
-    }
-
     pub fn total(&self) -> usize {
         self.0.values().sum()
     }
 
     /// Prints the counts and fails if one of the kinds was never reached, or another one was.
-    pub fn expect_exactly(&self, kinds: &[&str]) {
+    pub fn expect_exactly(&self, kinds: &[impl AsRef<str>]) {
         for (kind, count) in &self.0 {
             println!("{count:8} {kind}");
         }
-        for kind in kinds {
-            assert!(self.count(kind) > 0, "never reached: {kind}");
+        let kinds: Vec<&str> = kinds.iter().map(AsRef::as_ref).collect();
+        for kind in &kinds {
+            assert!(self.0.contains_key(*kind), "never reached: {kind}");
         }
         for kind in self.0.keys() {
             assert!(kinds.contains(&kind.as_str()), "not expected: {kind}");
         }
+    }
+}
+
+/// The kinds of a feed's answer.
+pub const FEEDS: [&str; 19] = [
+    "hungry",
+    "list",
+    "import 0",
+    "import 1",
+    "accepted",
+    "answer -19",
+    "answer -22",
+    "answer -12",
+    "unlink -104",
+    "unlink 0",
+    "break 10",
+    "break 11",
+    "break 12",
+    "break 13",
+    "break 14",
+    "break 15",
+    "break 16",
+    "refused 1",
+    "refused 3",
+];
+
+/// Which of them it is.
+pub fn feed_kind(answer: &Result<Fed, Refusal>) -> String {
+    match answer {
+        Err(refusal) => format!("refused {}", refusal.number()),
+        Ok(fed) => match fed.event {
+            Event::Hungry => "hungry".to_string(),
+            Event::List => "list".to_string(),
+            Event::Import { status } => format!("import {status}"),
+            Event::Submit { .. } => "accepted".to_string(),
+            Event::Answer { status, .. } => format!("answer {status}"),
+            Event::Unlink { status, .. } => format!("unlink {status}"),
+            Event::Break { fault, .. } => format!("break {}", fault.number()),
+        },
     }
 }

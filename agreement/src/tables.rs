@@ -1,40 +1,47 @@
-//! Export tables: as the engine's blocks, and at random.
+//! Export tables: as the library takes them, and at random.
 
 use reference::random::Random;
 use reference::table::{Device, Interface, BUSID_SIZE, MAX_DEVICES, MAX_INTERFACES, PATH_SIZE};
+use rimemaple::sys;
 
-/// The devices as the engine takes them, at most as many as it has places for: the fields in order, each big-endian.
-pub fn blocks(devices: &[Device]) -> Vec<u8> {
-    let held = &devices[..devices.len().min(MAX_DEVICES)];
-    held.iter().flat_map(block).collect()
+/// A table of so many devices, the first of which are these; at most as many as it has places for.
+pub fn flat(devices: &[Device], count: usize) -> sys::Table {
+    let mut places = [flat_device(&Device::new("", "", 0, 0)); MAX_DEVICES];
+    for (place, device) in places.iter_mut().zip(devices) {
+        *place = flat_device(device);
+    }
+    sys::Table {
+        devices: places,
+        count,
+    }
 }
 
-fn block(device: &Device) -> Vec<u8> {
-    let mut block = Vec::new();
-    block.extend(device.path);
-    block.extend(device.busid);
-    for word in [device.busnum, device.devnum, device.speed] {
-        block.extend(word.to_be_bytes());
+fn flat_device(device: &Device) -> sys::Device {
+    sys::Device {
+        path: device.path,
+        busid: device.busid,
+        busnum: device.busnum,
+        devnum: device.devnum,
+        speed: device.speed,
+        idVendor: device.id_vendor,
+        idProduct: device.id_product,
+        bcdDevice: device.bcd_device,
+        bDeviceClass: device.b_device_class,
+        bDeviceSubClass: device.b_device_sub_class,
+        bDeviceProtocol: device.b_device_protocol,
+        bConfigurationValue: device.b_configuration_value,
+        bNumConfigurations: device.b_num_configurations,
+        bNumInterfaces: device.b_num_interfaces,
+        interfaces: device.interfaces.map(flat_interface),
     }
-    for half in [device.id_vendor, device.id_product, device.bcd_device] {
-        block.extend(half.to_be_bytes());
+}
+
+fn flat_interface(interface: Interface) -> sys::Interface {
+    sys::Interface {
+        bInterfaceClass: interface.b_interface_class,
+        bInterfaceSubClass: interface.b_interface_sub_class,
+        bInterfaceProtocol: interface.b_interface_protocol,
     }
-    block.extend([
-        device.b_device_class,
-        device.b_device_sub_class,
-        device.b_device_protocol,
-        device.b_configuration_value,
-        device.b_num_configurations,
-        device.b_num_interfaces,
-    ]);
-    for interface in device.interfaces {
-        block.extend([
-            interface.b_interface_class,
-            interface.b_interface_sub_class,
-            interface.b_interface_protocol,
-        ]);
-    }
-    block
 }
 
 /// Bytes without a zero, and then zeros: at least one of each.
@@ -80,6 +87,15 @@ pub fn garbage(random: &mut Random) -> Device {
     device.devnum = random.next_u32();
     device.b_num_interfaces = random.next_u32() as u8;
     device
+}
+
+/// The devices, and garbage in every place behind them.
+pub fn before_garbage(devices: &[Device], random: &mut Random) -> Vec<Device> {
+    let mut held = devices.to_vec();
+    while held.len() < MAX_DEVICES {
+        held.push(garbage(random));
+    }
+    held
 }
 
 /// Devices that keep the rules together, by numbers and first busid bytes that are counted.

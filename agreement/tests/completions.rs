@@ -1,9 +1,9 @@
 //! Completions with a header buffer and device data of any length, each number at its limits.
 
 use agreement::client::{submit, unlink, with_data};
-use agreement::engine::{self, Completion};
+use agreement::pair::{Completion, Pair};
 use agreement::reached::Reached;
-use agreement::{answers, tables};
+use agreement::tables;
 use reference::random::Random;
 use reference::table::Device;
 use reference::wire::{op_req_import, CmdSubmit, USBIP_DIR_IN, USBIP_DIR_OUT};
@@ -11,15 +11,23 @@ use reference::wire::{op_req_import, CmdSubmit, USBIP_DIR_IN, USBIP_DIR_OUT};
 /// The ticket of the submit under test; the one before it is pending, too, and the one behind it was unlinked.
 const TICKET: u64 = 2;
 
-/// A connection: the stream up to a completion, and what follows it.
+/// A connection up to a completion, and what the client sends after it.
 struct Connection {
-    devices: Vec<Device>,
-    before: Vec<u8>,
+    pair: Pair,
     later: Vec<u8>,
 }
 
+fn connection(devices: &[Device], before: &[u8], later: &[u8]) -> Connection {
+    let (mut pair, _) = Pair::open(devices, devices.len());
+    pair.stream(before);
+    Connection {
+        pair,
+        later: later.to_vec(),
+    }
+}
+
 /// Attached to the second device, in the middle of an OUT message.
-fn connection(random: &mut Random, direction: u32, length: u32) -> Connection {
+fn attached(random: &mut Random, direction: u32, length: u32) -> Connection {
     let devices = tables::table(random, 3);
     let devid = devices[1].devid();
     let tested = CmdSubmit {
@@ -42,37 +50,21 @@ fn connection(random: &mut Random, direction: u32, length: u32) -> Connection {
     before.extend(later.drain(..random.below(112)));
     // Whether it is pending still.
     later.extend(unlink(6, tested.seqnum));
-    Connection {
-        devices,
-        before,
-        later,
-    }
+    connection(&devices, &before, &later)
 }
 
-/// Compares a completion with every byte of the header buffer, and tells the refusal or 0.
+/// Compares a completion with a header buffer of this length and what follows it, and tells the refusal or 0.
 fn compare(
     connection: &Connection,
     completion: &Completion,
     header: usize,
     random: &mut Random,
 ) -> u32 {
-    let header = random.bytes(header);
-    let (mut header_here, mut header_there) = (header.clone(), header);
-    let Connection {
-        devices,
-        before,
-        later,
-    } = connection;
-    let expected = answers::complete(devices, before, completion, later, &mut header_here);
-    let answer = engine::complete(devices, before, completion, later, &mut header_there);
-    let data = completion.data.len();
-    let case = format!(
-        "{completion:?}, data of {data}, header of {}",
-        header_here.len()
-    );
-    assert_eq!(answer, expected, "{case}");
-    assert_eq!(header_there, header_here, "{case}");
-    expected.refusal
+    let mut header = random.bytes(header);
+    let mut pair = connection.pair.clone();
+    let answer = pair.complete(completion, &mut header);
+    pair.stream(&connection.later);
+    answer.map_or_else(|refusal| refusal.number(), |_| 0)
 }
 
 /// Numbers around a limit.
@@ -81,7 +73,7 @@ fn around(limit: u32) -> [u32; 3] {
 }
 
 fn kind(refusal: u32, direction: u32, completion: &Completion) -> String {
-    let short = completion.data.len() < completion.actual_length as usize;
+    let short = completion.payload.len() < completion.actual as usize;
     match (refusal, direction) {
         (0, USBIP_DIR_IN) => "returned IN".to_string(),
         (0, _) if short => "returned OUT with less data".to_string(),
@@ -97,7 +89,7 @@ fn each_number_at_its_limits() {
     let mut reached = Reached::default();
     for direction in [USBIP_DIR_IN, USBIP_DIR_OUT] {
         for length in [0, 1, 64, 16_384] {
-            let connection = connection(&mut random, direction, length);
+            let connection = attached(&mut random, direction, length);
             for ticket in [TICKET, 0, 1, 3, 4, TICKET + (1 << 32), u64::MAX] {
                 for status in [0, -1, -104, i32::MIN, 1, i32::MAX] {
                     for actual in [&[0, 1, 16_385, u32::MAX][..], &around(length)].concat() {
@@ -105,8 +97,8 @@ fn each_number_at_its_limits() {
                             let completion = Completion {
                                 ticket,
                                 status,
-                                actual_length: actual,
-                                data: &frame[..data as usize],
+                                actual,
+                                payload: &frame[..data as usize],
                             };
                             for header in [48, 49, 47, 0] {
                                 let refusal =
@@ -135,15 +127,15 @@ fn each_number_at_its_limits() {
 fn header_buffers_of_every_length() {
     let mut random = Random::new(62);
     let mut reached = Reached::default();
-    let connection = connection(&mut random, USBIP_DIR_IN, 64);
+    let connection = attached(&mut random, USBIP_DIR_IN, 64);
     let frame = random.bytes(64);
     for header in 0..=100 {
-        for actual_length in [0, 64] {
+        for actual in [0, 64] {
             let completion = Completion {
                 ticket: TICKET,
                 status: 0,
-                actual_length,
-                data: &frame,
+                actual,
+                payload: &frame,
             };
             let refusal = compare(&connection, &completion, header, &mut random);
             let short = if header < 48 { "short" } else { "long enough" };
@@ -153,35 +145,37 @@ fn header_buffers_of_every_length() {
     reached.expect_exactly(&["short: 1", "long enough: 0"]);
 }
 
+/// Sessions with nothing pending, each with its name.
+fn idle(random: &mut Random) -> [(&'static str, Connection); 5] {
+    let devices = tables::table(random, 3);
+    let mut clash = devices.clone();
+    clash[2].busid = clash[0].busid;
+    let import = op_req_import(&devices[1].busid);
+    let later = [&import[..], &submit(1, devices[1].devid()).header()].concat();
+    let broken = [&import[..], &[0; 48]].concat();
+    [
+        ("waiting", &devices, &[][..]),
+        ("waiting within an import", &devices, &import[..20]),
+        ("attached", &devices, &import),
+        ("closed by a break", &devices, &broken),
+        ("closed by open", &clash, &[]),
+    ]
+    .map(|(name, devices, before)| (name, connection(devices, before, &later)))
+}
+
 #[test]
-fn sessions_that_are_not_attached() {
+fn sessions_with_nothing_pending() {
     let mut random = Random::new(63);
     let mut reached = Reached::default();
-    let attached = connection(&mut random, USBIP_DIR_IN, 64);
-    let cut = |before: &[u8]| Connection {
-        devices: attached.devices.clone(),
-        before: before.to_vec(),
-        later: attached.before.clone(),
-    };
-    let mut twice = cut(&[]);
-    twice.devices[2].busid = twice.devices[0].busid;
-    let import = &attached.before[..40];
-    for (name, connection) in [
-        ("waiting", cut(&[])),
-        ("waiting within an import", cut(&import[..20])),
-        ("attached with none pending", cut(import)),
-        ("closed by a break", cut(&[import, &[0; 48]].concat())),
-        ("closed by open", twice),
-    ] {
+    for (name, connection) in idle(&mut random) {
         for ticket in [0, 1, u64::MAX] {
-            for (status, actual_length) in [(0, 0), (1, 65)] {
+            for (status, actual) in [(0, 0), (1, 65)] {
                 for header in [0, 47, 48, 49] {
-                    let data = &[];
                     let completion = Completion {
                         ticket,
                         status,
-                        actual_length,
-                        data,
+                        actual,
+                        payload: &[],
                     };
                     let refusal = compare(&connection, &completion, header, &mut random);
                     reached.add(format!("{name}: {refusal}"));
@@ -194,8 +188,8 @@ fn sessions_that_are_not_attached() {
         "waiting: 4",
         "waiting within an import: 1",
         "waiting within an import: 4",
-        "attached with none pending: 1",
-        "attached with none pending: 4",
+        "attached: 1",
+        "attached: 4",
         "closed by a break: 3",
         "closed by open: 3",
     ]);

@@ -1,16 +1,16 @@
 //! Feeds with buffers of any length, of sessions over several devices.
 
 use agreement::client::{messages, submit, with_data};
-use agreement::engine::{self, FlatFeed};
-use agreement::reached::Reached;
-use agreement::{answers, tables};
+use agreement::pair::Pair;
+use agreement::reached::{feed_kind, Reached, FEEDS};
+use agreement::tables;
 use reference::random::Random;
 use reference::session::{LEAST_REPLY, LEAST_WORK};
 use reference::table::{Device, MAX_DEVICES};
 use reference::wire::{op_req_devlist, op_req_import, CmdSubmit, USBIP_DIR_OUT};
+use rimemaple::{Event, Fed, Refusal};
 
 /// Where a stream is cut: what is fed before, the piece, and what follows it.
-#[derive(Debug)]
 struct Cut<'a> {
     before: &'a [u8],
     piece: &'a [u8],
@@ -25,54 +25,25 @@ fn cut(stream: &[u8], from: usize, to: usize) -> Cut<'_> {
     }
 }
 
-/// Compares the feed of a piece: its answer, every byte of both buffers, and the numbers at the end of the stream.
+/// Compares the whole stream, the piece fed into buffers of these lengths, and tells the answer to the piece.
 fn compare(
     devices: &[Device],
     cut: &Cut,
     work: usize,
     reply: usize,
     random: &mut Random,
-) -> FlatFeed {
-    let (work, reply) = (random.bytes(work), random.bytes(reply));
-    let (mut work_here, mut reply_here) = (work.clone(), reply.clone());
-    let (expected, later) = answers::feed(
-        devices,
-        cut.before,
-        cut.piece,
-        cut.tail,
-        &mut work_here,
-        &mut reply_here,
-    );
-    let (mut work_there, mut reply_there) = (work, reply);
-    let answer = engine::feed(
-        devices,
-        cut.before,
-        cut.piece,
-        &later,
-        &mut work_there,
-        &mut reply_there,
-    );
-    assert_eq!(answer, expected, "{cut:?} over {devices:?}");
-    assert!(work_there == work_here, "the work buffer of {cut:?}");
-    assert!(reply_there == reply_here, "the reply to {cut:?}");
-    expected
+) -> Result<Fed, Refusal> {
+    let (mut work, mut reply) = (random.bytes(work), random.bytes(reply));
+    let (mut pair, _) = Pair::open(devices, devices.len());
+    pair.stream(cut.before);
+    let answer = pair.feed(cut.piece, &mut work, &mut reply);
+    let consumed = answer.map_or(0, |fed| fed.consumed);
+    pair.stream(&[&cut.piece[consumed..], cut.tail].concat());
+    answer
 }
 
-fn kind(fed: &FlatFeed) -> String {
-    let event = &fed.event;
-    match event.kind {
-        0 => "hungry".to_string(),
-        1 => "list".to_string(),
-        2 => format!("import {}", event.status),
-        3 => "accepted".to_string(),
-        4 => format!("answer {}", event.status as i32),
-        5 => format!("unlink {}", event.status as i32),
-        6 => format!("break {}", event.number),
-        _ => format!("refused {}", event.number),
-    }
-}
-
-/// A session at a place of its stream, and the kinds of events that the rest of the stream, a byte of it and nothing can give.
+/// A session at a place of its stream, and the kinds of events that the rest of the stream, a byte of it and nothing
+/// can give.
 struct State {
     name: &'static str,
     devices: Vec<Device>,
@@ -92,8 +63,9 @@ fn states(random: &mut Random) -> Vec<State> {
     };
     let out = [import.clone(), with_data(&out, random)].concat();
     let list = op_req_devlist();
-    let unknown = op_req_import(&[7; 32]);
     let other = [&list[..], &import].concat();
+    let unknown = [op_req_import(&[7; 32]), list.clone()].concat();
+    let broken = [&[0; 8], &list[..]].concat();
     let state = |name, stream: &[u8], at, event| State {
         name,
         devices: devices.clone(),
@@ -110,18 +82,8 @@ fn states(random: &mut Random) -> Vec<State> {
         state("attached within a header", &out, 70, "accepted"),
         state("attached within data", &out, 100, "accepted"),
         state("closed by a list", &other, 8, "refused 3"),
-        state(
-            "closed by an import",
-            &[&unknown[..], &list].concat(),
-            40,
-            "refused 3",
-        ),
-        state(
-            "closed by a break",
-            &[&[0; 8], &list[..]].concat(),
-            8,
-            "refused 3",
-        ),
+        state("closed by an import", &unknown, 40, "refused 3"),
+        state("closed by a break", &broken, 8, "refused 3"),
         state("closed by open", &list, 0, "refused 3"),
     ];
     let clash = states.last_mut().expect("there are some");
@@ -140,7 +102,7 @@ fn buffers_at_their_least_sizes() {
                 for to in [state.at, state.at + 1, state.stream.len()] {
                     let cut = cut(&state.stream, state.at, to);
                     let fed = compare(&state.devices, &cut, work, reply, &mut random);
-                    reached.add(format!("{}: {}", state.name, kind(&fed)));
+                    reached.add(format!("{}: {}", state.name, feed_kind(&fed)));
                 }
             }
         }
@@ -150,7 +112,6 @@ fn buffers_at_their_least_sizes() {
             kinds.push(format!("{}: hungry", state.name));
         }
     }
-    let kinds: Vec<&str> = kinds.iter().map(String::as_str).collect();
     reached.expect_exactly(&kinds);
 }
 
@@ -165,23 +126,22 @@ fn every_device_of_a_table() {
             let cut = cut(&stream, before.len(), stream.len());
             compare(&devices, &cut, LEAST_WORK, LEAST_REPLY, &mut random)
         };
-        let listed = kind(&ask(&[], &op_req_devlist()));
+        let listed = feed_kind(&ask(&[], &op_req_devlist()));
         reached.add(format!("{listed} of {count}"));
         for (place, device) in devices.iter().enumerate() {
             let import = op_req_import(&device.busid);
-            let imported = kind(&ask(&[], &import));
+            let imported = feed_kind(&ask(&[], &import));
             reached.add(format!("{imported} of device {place}"));
             for (other, device) in devices.iter().enumerate() {
                 let fed = ask(&import, &submit(1, device.devid()).header());
                 let named = if other == place { "its own" } else { "another" };
-                reached.add(format!("{} for {named}", kind(&fed)));
+                reached.add(format!("{} for {named}", feed_kind(&fed)));
             }
         }
     }
     let mut kinds: Vec<String> = (0..=MAX_DEVICES).map(|n| format!("list of {n}")).collect();
     kinds.extend((0..MAX_DEVICES).map(|place| format!("import 0 of device {place}")));
     kinds.extend(["accepted for its own", "answer -19 for another"].map(str::to_string));
-    let kinds: Vec<&str> = kinds.iter().map(String::as_str).collect();
     reached.expect_exactly(&kinds);
 }
 
@@ -209,29 +169,15 @@ fn random_streams_cut_anywhere() {
             _ => {}
         }
         let cut = cut(&stream, from, to);
-        reached.add(kind(&compare(&devices, &cut, work, reply, &mut random)));
+        reached.add(feed_kind(&compare(
+            &devices,
+            &cut,
+            work,
+            reply,
+            &mut random,
+        )));
     }
-    reached.expect_exactly(&[
-        "hungry",
-        "list",
-        "import 0",
-        "import 1",
-        "accepted",
-        "answer -19",
-        "answer -22",
-        "answer -12",
-        "unlink -104",
-        "unlink 0",
-        "break 10",
-        "break 11",
-        "break 12",
-        "break 13",
-        "break 14",
-        "break 15",
-        "break 16",
-        "refused 1",
-        "refused 3",
-    ]);
+    reached.expect_exactly(&FEEDS);
     assert_eq!(reached.total(), 20_000);
 }
 
@@ -248,10 +194,14 @@ fn a_break_drops_what_is_pending() {
         let from = stream.len();
         stream.extend([0; 48]);
         let cut = cut(&stream, from, from + 48);
-        let fed = compare(&devices, &cut, LEAST_WORK, LEAST_REPLY, &mut random);
-        reached.add(format!("{} drops {}", kind(&fed), fed.dropped.count));
+        match compare(&devices, &cut, LEAST_WORK, LEAST_REPLY, &mut random) {
+            Ok(Fed {
+                event: Event::Break { dropped, .. },
+                ..
+            }) => reached.add(format!("drops {}", dropped.len())),
+            other => panic!("{other:?}"),
+        }
     }
-    let kinds: Vec<String> = (0..=32).map(|n| format!("break 12 drops {n}")).collect();
-    let kinds: Vec<&str> = kinds.iter().map(String::as_str).collect();
+    let kinds: Vec<String> = (0..=32).map(|n| format!("drops {n}")).collect();
     reached.expect_exactly(&kinds);
 }

@@ -1,29 +1,26 @@
-//! List replies of several devices, into buffers of any length.
+//! List replies of several devices.
 
-use agreement::engine;
+use agreement::pair::Pair;
 use agreement::reached::Reached;
-use agreement::tables::{garbage, table};
+use agreement::tables::{before_garbage, table};
 use reference::random::Random;
+use reference::session::{LEAST_REPLY, LEAST_WORK};
 use reference::table::{Device, MAX_DEVICES, MAX_INTERFACES};
-use reference::wire::op_rep_devlist;
+use reference::wire::{op_rep_devlist, op_req_devlist};
+use rimemaple::Event;
 
-/// Compares the reply in a buffer of a length; what is too short for it stays as it is.
-fn compare(devices: &[Device], length: usize, random: &mut Random) -> bool {
-    let expected = op_rep_devlist(devices);
-    let mut reply = random.bytes(length);
-    let mut after = reply.clone();
-    let fits = expected.len() <= length;
-    if fits {
-        after[..expected.len()].copy_from_slice(&expected);
-    }
-    let mut held = devices.to_vec();
-    while held.len() < MAX_DEVICES {
-        held.push(garbage(random));
-    }
-    let written = engine::list_reply(&held, devices.len(), &mut reply);
-    assert_eq!(written, if fits { expected.len() } else { 0 });
-    assert!(reply == after, "the reply to {devices:?}");
-    fits
+/// Asks for the list of these devices, behind which stands what must not be listed, and tells its length.
+fn compare(devices: &[Device], random: &mut Random) -> usize {
+    let held = before_garbage(devices, random);
+    let (mut pair, opened) = Pair::open(&held, devices.len());
+    assert_eq!(opened, Ok(()));
+    let mut work = random.bytes(LEAST_WORK);
+    let mut reply = random.bytes(LEAST_REPLY);
+    let fed = pair.feed(&op_req_devlist(), &mut work, &mut reply);
+    let fed = fed.expect("the session waits");
+    assert_eq!(fed.event, Event::List);
+    assert!(reply[..fed.length] == op_rep_devlist(devices));
+    fed.length
 }
 
 #[test]
@@ -31,37 +28,34 @@ fn every_count_of_devices_and_of_interfaces() {
     let mut random = Random::new(11);
     let mut reached = Reached::default();
     for count in 0..=MAX_DEVICES {
-        for interfaces in 0..=MAX_INTERFACES + 4 {
+        for interfaces in 0..=MAX_INTERFACES {
             let mut devices = table(&mut random, count);
-            if interfaces <= MAX_INTERFACES {
-                for device in &mut devices {
-                    device.b_num_interfaces = interfaces as u8;
-                }
+            for device in &mut devices {
+                device.b_num_interfaces = interfaces as u8;
             }
-            let whole = op_rep_devlist(&devices).len();
-            for (what, length) in [
-                ("nothing", 0),
-                ("only a head", 11),
-                ("one byte less", whole - 1),
-                ("exact", whole),
-                ("one byte more", whole + 1),
-                ("a reply buffer", 8_192),
-            ] {
-                let fits = compare(&devices, length, &mut random);
-                reached.add(format!("{what}: {}", if fits { "written" } else { "left" }));
-            }
-            if whole == 6_028 {
-                reached.add("the longest");
-            }
+            reached.add(match compare(&devices, &mut random) {
+                12 => "the shortest",
+                6_028 => "the longest",
+                _ => "in between",
+            });
         }
     }
-    reached.expect_exactly(&[
-        "nothing: left",
-        "only a head: left",
-        "one byte less: left",
-        "exact: written",
-        "one byte more: written",
-        "a reply buffer: written",
-        "the longest",
-    ]);
+    reached.expect_exactly(&["the shortest", "the longest", "in between"]);
+}
+
+#[test]
+fn devices_with_any_counts_of_interfaces() {
+    let mut random = Random::new(12);
+    let mut reached = Reached::default();
+    for _ in 0..1_000 {
+        let count = 2 + random.below(MAX_DEVICES - 1);
+        let devices = table(&mut random, count);
+        compare(&devices, &mut random);
+        let first = devices[0].b_num_interfaces;
+        let alike = devices
+            .iter()
+            .all(|device| device.b_num_interfaces == first);
+        reached.add(if alike { "alike" } else { "of several counts" });
+    }
+    reached.expect_exactly(&["alike", "of several counts"]);
 }

@@ -1,10 +1,13 @@
-//! The look-up of a device by its busid.
+//! The look-up of a device by its busid, as an import asks for it.
 
-use agreement::engine;
+use agreement::pair::Pair;
 use agreement::reached::Reached;
-use agreement::tables::{garbage, table};
+use agreement::tables::{before_garbage, table};
 use reference::random::Random;
-use reference::table::{self, BUSID_SIZE, MAX_DEVICES};
+use reference::session::{LEAST_REPLY, LEAST_WORK};
+use reference::table::{self, Device, BUSID_SIZE, MAX_DEVICES};
+use reference::wire::{op_rep_import, op_req_import};
+use rimemaple::Event;
 
 type Busid = [u8; BUSID_SIZE];
 type Change = fn(&mut Busid);
@@ -25,53 +28,52 @@ const LIKE: [(&str, Change); 6] = [
     ("empty", |busid| busid.fill(0)),
 ];
 
+/// Imports a busid from the first `count` devices, and tells the place of the device that is served.
+fn import(held: &[Device], count: usize, busid: &Busid) -> Option<usize> {
+    let (mut pair, opened) = Pair::open(held, count);
+    assert_eq!(opened, Ok(()));
+    let (mut work, mut reply) = ([0; LEAST_WORK], [0; LEAST_REPLY]);
+    let fed = pair.feed(&op_req_import(busid), &mut work, &mut reply);
+    let fed = fed.expect("the session waits");
+    let place = table::find(&held[..count], busid);
+    let device = place.map(|place| &held[place]);
+    let status = i32::from(device.is_none());
+    assert_eq!(fed.event, Event::Import { status });
+    assert!(reply[..fed.length] == op_rep_import(device));
+    let devid = device.map(|device| u64::from(device.devid()));
+    assert_eq!(pair.library.devid(), devid, "{busid:?} in {held:?}");
+    place
+}
+
 #[test]
 fn the_first_device_whose_bytes_all_match() {
     let mut random = Random::new(21);
     let mut reached = Reached::default();
     for _ in 0..50 {
         for count in 1..=MAX_DEVICES {
-            let mut devices = table(&mut random, MAX_DEVICES);
-            devices[count..].fill_with(|| garbage(&mut random));
+            let devices = table(&mut random, count);
+            let held = before_garbage(&devices, &mut random);
             let any = random.below(count);
             let wanted = random.pick(&[0, count - 1, any]);
-            // Two of one busid break a rule, and yet the first is found.
-            let twice = random.chance(30) && wanted + 1 < count;
-            if twice {
-                devices[count - 1].busid = devices[wanted].busid;
-            }
             for (what, change) in LIKE {
-                let mut busid = devices[wanted].busid;
+                let mut busid = held[wanted].busid;
                 change(&mut busid);
-                let place = table::find(&devices[..count], &busid);
-                assert_eq!(
-                    engine::find(&devices, count, &busid),
-                    place,
-                    "{what}: {busid:?} in {devices:?}"
-                );
-                reached.add(match place {
+                reached.add(match import(&held, count, &busid) {
                     None => format!("nothing: {what}"),
-                    Some(_) if twice => "the first of two".to_string(),
                     Some(0) => "the first place".to_string(),
-                    Some(i) if i + 1 == count => "the last place".to_string(),
+                    Some(place) if place + 1 == count => "the last place".to_string(),
                     Some(_) => "another place".to_string(),
                 });
             }
-            // Behind the count and among none there is nothing.
-            let busid = devices[count - 1].busid;
-            let place = table::find(&devices[..count - 1], &busid);
-            assert_eq!(engine::find(&devices, count - 1, &busid), place);
-            reached.add(match place {
-                None => "nothing: behind the count",
-                Some(_) => "the first of two",
-            });
+            let behind = import(&held, count - 1, &held[count - 1].busid);
+            assert_eq!(behind, None);
+            reached.add("nothing: behind the count");
         }
     }
     reached.expect_exactly(&[
         "the first place",
         "the last place",
         "another place",
-        "the first of two",
         "nothing: differs behind its zero",
         "nothing: shorter",
         "nothing: longer",

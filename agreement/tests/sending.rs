@@ -1,6 +1,5 @@
 //! The sending step, at the limits of each of its numbers, and whole sends.
 
-use agreement::engine;
 use agreement::reached::Reached;
 use reference::random::Random;
 use reference::sending;
@@ -8,18 +7,23 @@ use reference::wire::HEADER_SIZE;
 
 const MAX: usize = usize::MAX;
 
-/// Room for the longest part.
+/// Device data of the longest send.
 const ROOM: usize = 300;
+
+/// Compares a step: its place in the header or the data, and its length. (To which of them an empty part belongs is
+/// left free.)
+fn part<'a>(header: &'a [u8], data: &'a [u8], n: usize, sent: usize, most: usize) -> &'a [u8] {
+    let part = rimemaple::part(header, data, n, sent, most);
+    let expected = sending::part(header, data, n, sent, most);
+    let empty = part.is_empty() && expected.is_empty();
+    let case = (header.len(), data.len(), n, sent, most);
+    assert!(empty || std::ptr::eq(part, expected), "{case:?}");
+    part
+}
 
 /// Compares a step, and tells what it was.
 fn compare(header: &[u8], data: &[u8], n: usize, sent: usize, most: usize) -> &'static str {
-    let part = sending::part(header, data, n, sent, most);
-    let mut out = [0xa5; ROOM];
-    let length = engine::part(header, data, n, sent, most, &mut out);
-    let case = (header.len(), data.len(), n, sent, most);
-    assert_eq!(length, part.len(), "{case:?}");
-    assert_eq!(out[..length], *part, "{case:?}");
-    assert_eq!(out[length..], [0xa5; ROOM][length..], "{case:?}");
+    let length = part(header, data, n, sent, most).len();
     if header.len() < HEADER_SIZE {
         "empty: short header"
     } else if data.len() < n {
@@ -122,14 +126,11 @@ fn the_whole_goes_out_in_order_and_in_time() {
         let mut steps = 0;
         loop {
             let most = 1 + random.below(limit);
-            let mut out = [0; ROOM];
-            let length = engine::part(&header, &data, n, gone.len(), most, &mut out);
-            let part = sending::part(&header, &data, n, gone.len(), most);
-            assert_eq!(out[..length], *part);
-            if length == 0 {
+            let part = part(&header, &data, n, gone.len(), most);
+            if part.is_empty() {
                 break;
             }
-            gone.extend(&out[..length]);
+            gone.extend(part);
             steps += 1;
         }
         assert_eq!(gone, whole);

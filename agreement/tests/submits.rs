@@ -1,41 +1,92 @@
-//! What is said to a submit whose last byte is in, up to the last ticket, which no run of a test could reach.
+//! What is said to a submit whose last byte is in, up to the last ticket. No run of a test could come that far, so the
+//! counts of a session are set to where it would be.
 
-use agreement::engine;
+use agreement::client::submit;
+use agreement::pair::Pair;
 use agreement::reached::Reached;
+use agreement::tables::table;
 use reference::random::Random;
-use reference::session::{refuses_submit, MAX_PENDING};
-use reference::wire::CmdSubmit;
+use reference::session::{refuses_submit, LEAST_REPLY, LEAST_WORK, MAX_PENDING};
+use reference::wire::{op_req_import, CmdSubmit};
+use rimemaple::{Event, Session, HEADER_LEN};
+
+/// A seqnum that no pending URB has.
+const SEQNUM: u32 = 1_000;
+
+/// Attached, with so many URBs pending.
+fn with_pending(random: &mut Random, pending: usize) -> Session {
+    let devices = table(random, 1);
+    let (mut pair, _) = Pair::open(&devices, 1);
+    pair.stream(&op_req_import(&devices[0].busid));
+    for seqnum in 0..pending as u32 {
+        pair.stream(&submit(seqnum, devices[0].devid()).header());
+    }
+    pair.library
+}
+
+/// The same, serving another devid, and as if so many submits had been accepted and all but those pending returned.
+fn moved_on(session: &Session, devid: u32, accepted: u64) -> Session {
+    let mut moved = *session.as_sys();
+    moved.link.devid = u64::from(devid);
+    moved.link.counts.accepted = accepted;
+    moved.link.counts.returned = accepted - moved.pending.count as u64;
+    Session::from(moved)
+}
+
+fn event(session: &mut Session, submit: &CmdSubmit) -> Event {
+    let (mut work, mut reply) = ([0; LEAST_WORK], [0; LEAST_REPLY]);
+    let fed = session.feed(&submit.header(), &mut work, &mut reply);
+    fed.expect("the session's parts fit together").event
+}
+
+/// Compares what is said to a submit, and tells it.
+fn compare(session: &Session, submit: &CmdSubmit, attached: u32, accepted: u64) -> &'static str {
+    let pending = session.as_sys().pending.count;
+    let mut session = moved_on(session, attached, accepted);
+    let event = event(&mut session, submit);
+    let status = refuses_submit(submit, attached, pending, accepted);
+    let same = match (status, event) {
+        (None, Event::Submit { ticket, .. }) => ticket == accepted + 1,
+        (Some(expected), Event::Answer { seqnum, status }) => {
+            (seqnum, status) == (SEQNUM, expected)
+        }
+        _ => false,
+    };
+    assert!(
+        same,
+        "{event} to {submit:?}, {attached} attached, {pending} pending, {accepted} accepted"
+    );
+    assert_eq!(
+        session.numbers().accepted,
+        accepted + u64::from(status.is_none())
+    );
+    match status {
+        None if accepted == u64::MAX - 1 => "accepted with the last ticket",
+        None => "accepted",
+        Some(-19) => "-19",
+        Some(-22) => "-22",
+        Some(-12) if pending == MAX_PENDING => "-12: 32 are pending",
+        Some(-12) if accepted == u64::MAX => "-12: no ticket is left",
+        Some(other) => panic!("status {other}"),
+    }
+}
 
 #[test]
 fn statuses_in_their_order_up_to_the_last_ticket() {
     let mut random = Random::new(41);
     let mut reached = Reached::default();
-    for _ in 0..200 {
-        let attached = 1 + random.next_u32() / 2;
-        for devid in [attached, attached ^ 1, attached ^ 0x1_0000, 0, u32::MAX] {
-            for ep in [0, 1, 15, 16, 17, 0x100, u32::MAX] {
-                for pending in [0, 1, 31, 32] {
+    for pending in [0, 1, 31, 32] {
+        let session = with_pending(&mut random, pending);
+        for _ in 0..200 {
+            let attached = 1 + random.next_u32() / 2;
+            for devid in [attached, attached ^ 1, attached ^ 0x1_0000, 0, u32::MAX] {
+                for ep in [0, 1, 15, 16, 17, 0x100, u32::MAX] {
                     for accepted in [32, 33, 1 << 32, 1 << 63, u64::MAX - 1, u64::MAX] {
                         let submit = CmdSubmit {
-                            devid,
                             ep,
-                            ..CmdSubmit::default()
+                            ..submit(SEQNUM, devid)
                         };
-                        let status = refuses_submit(&submit, attached, pending, accepted);
-                        assert_eq!(
-                            engine::submit_status(devid, ep, attached, pending, accepted),
-                            status.unwrap_or(0) as u32,
-                            "{submit:?}, {attached} attached, {pending} pending, {accepted} accepted"
-                        );
-                        reached.add(match status {
-                            None if accepted == u64::MAX - 1 => "accepted with the last ticket",
-                            None => "accepted",
-                            Some(-19) => "-19",
-                            Some(-22) => "-22",
-                            Some(-12) if pending == MAX_PENDING => "-12: 32 are pending",
-                            Some(-12) if accepted == u64::MAX => "-12: no ticket is left",
-                            Some(other) => panic!("status {other}"),
-                        });
+                        reached.add(compare(&session, &submit, attached, accepted));
                     }
                 }
             }
@@ -49,4 +100,34 @@ fn statuses_in_their_order_up_to_the_last_ticket() {
         "-12: 32 are pending",
         "-12: no ticket is left",
     ]);
+}
+
+#[test]
+fn the_last_ticket_is_given_once() {
+    let mut random = Random::new(42);
+    let devid = random.next_u32();
+    let waiting = with_pending(&mut random, 0);
+    let mut session = moved_on(&waiting, devid, u64::MAX - 1);
+    let last = event(&mut session, &submit(1, devid));
+    assert!(
+        matches!(
+            last,
+            Event::Submit {
+                ticket: u64::MAX,
+                ..
+            }
+        ),
+        "{last}"
+    );
+    let none_left = Event::Answer {
+        seqnum: 2,
+        status: -12,
+    };
+    assert_eq!(event(&mut session, &submit(2, devid)), none_left);
+    let returned = session.complete(u64::MAX, 0, 0, &[], &mut [0; HEADER_LEN]);
+    assert_eq!(returned, Ok(HEADER_LEN as u64));
+    assert_eq!(event(&mut session, &submit(2, devid)), none_left);
+    let numbers = session.numbers();
+    assert_eq!((numbers.accepted, numbers.returned), (u64::MAX, u64::MAX));
+    assert_eq!(session.close().as_deref(), Ok(&[][..]));
 }

@@ -1,11 +1,11 @@
 //! Table rules: every rule broken by itself, at its limits, and several at once.
 
-use agreement::engine;
+use agreement::pair::Pair;
 use agreement::reached::Reached;
-use agreement::tables::{garbage, table};
+use agreement::tables::{before_garbage, flat, garbage, table};
 use reference::random::Random;
-use reference::session::Session;
-use reference::table::{follows_rules, Device, BUSID_SIZE, MAX_DEVICES, PATH_SIZE};
+use reference::table::{Device, BUSID_SIZE, MAX_DEVICES, PATH_SIZE};
+use rimemaple::{sys, Refusal};
 
 /// A change of the device at the first place, which has the one at the second to look at.
 type Change = fn(&mut [Device], usize, usize, &mut Random);
@@ -107,26 +107,14 @@ const CHANGES: [(&str, bool, Change); 37] = [
     }),
 ];
 
-/// Compares both operations that judge a table of these devices; behind them stands what must not count.
+/// Compares what open says to a table of these devices, behind which stands what must not count, and tells whether it
+/// is good. A session is over that table, and a refused one over none.
 fn compare(devices: &[Device], random: &mut Random) -> bool {
-    let good = follows_rules(devices);
-    let mut held = devices.to_vec();
-    while held.len() < MAX_DEVICES {
-        held.push(garbage(random));
-    }
-    assert_eq!(
-        engine::is_good(&held, devices.len()),
-        good,
-        "is_good of {devices:?}"
-    );
-    let (_, opened) = Session::open(devices.to_vec());
-    let refusal = opened.map_or_else(|refusal| u32::from(refusal.number()), |()| 0);
-    assert_eq!(
-        engine::open(&held, devices.len()),
-        refusal,
-        "open with {devices:?}"
-    );
-    good
+    let held = before_garbage(devices, random);
+    let (pair, opened) = Pair::open(&held, devices.len());
+    let count = if opened.is_ok() { devices.len() } else { 0 };
+    assert_eq!(pair.library.as_sys().table, flat(&held, count));
+    opened.is_ok()
 }
 
 fn named(good: bool, what: &str) -> String {
@@ -152,7 +140,6 @@ fn each_rule_by_itself() {
         .iter()
         .map(|(what, good, _)| named(*good, what))
         .collect();
-    let kinds: Vec<&str> = kinds.iter().map(String::as_str).collect();
     reached.expect_exactly(&kinds);
     assert!(reached.total() >= 15_000);
 }
@@ -191,11 +178,12 @@ fn counts_of_devices() {
             let good = compare(&devices, &mut random);
             reached.add(named(good, if count <= 16 { "up to 16" } else { "more" }));
         }
-        // As no table is that long, the engine alone is asked, and the answer is that of a table of 17.
+        // As the reference has no table that long, the library alone is asked, and answers as to one of 17.
         let devices = table(&mut random, MAX_DEVICES);
         for count in [1 << 8, 1 << 16, 1 << 32, (1 << 32) + 1, usize::MAX] {
-            assert!(!engine::is_good(&devices, count), "{count}");
-            assert_eq!(engine::open(&devices, count), 2, "{count}");
+            let opened = sys::rimemaple_open(flat(&devices, count));
+            assert_eq!(opened.refusal, Refusal::BAD_TABLE.number(), "{count}");
+            assert_eq!(opened.session.table, flat(&devices, 0), "{count}");
             reached.add(named(false, "out of reach"));
         }
     }

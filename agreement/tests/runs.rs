@@ -1,0 +1,158 @@
+//! Whole runs over tables of several devices: a client, a device side and a host that do anything, in any order.
+
+use agreement::client::messages;
+use agreement::pair::{Completion, Pair};
+use agreement::reached::{feed_kind, Reached, FEEDS};
+use agreement::tables;
+use reference::random::Random;
+use reference::session::{LEAST_REPLY, LEAST_WORK, MAX_PENDING};
+use reference::table::MAX_DEVICES;
+use reference::wire::HEADER_SIZE;
+use rimemaple::Event;
+
+const RUNS: u64 = 10_000;
+/// Acts of a run, at most.
+const ACTS: usize = 200;
+/// Device data, longer than any transfer.
+const FRAME: usize = 16_400;
+
+struct Run<'a> {
+    random: Random,
+    pair: Pair,
+    /// What the client sends, as far as it wasn't consumed yet.
+    stream: Vec<u8>,
+    /// How often the device side is heard, in percent.
+    diligence: usize,
+    work: Vec<u8>,
+    reply: Vec<u8>,
+    frame: Vec<u8>,
+    reached: &'a mut Reached,
+}
+
+impl Run<'_> {
+    fn new(seed: u64, reached: &mut Reached) -> Run<'_> {
+        let mut random = Random::new(seed);
+        let count = 1 + random.below(MAX_DEVICES);
+        let devices = tables::table(&mut random, count);
+        let (pair, _) = Pair::open(&devices, count);
+        Run {
+            pair,
+            stream: messages(&mut random, &devices).concat(),
+            diligence: random.pick(&[2, 20, 45]),
+            work: random.bytes(LEAST_WORK),
+            reply: random.bytes(LEAST_REPLY),
+            frame: random.bytes(FRAME),
+            random,
+            reached,
+        }
+    }
+
+    fn play(&mut self) {
+        for _ in 0..ACTS {
+            match self.random.below(100) {
+                0 => self.close(),
+                percent if percent <= self.diligence => self.complete(),
+                _ => self.feed(),
+            }
+            let over = self.stream.is_empty() || self.pair.reference.is_closed();
+            if over && self.random.chance(20) {
+                return;
+            }
+        }
+    }
+
+    fn usually(&mut self, usual: usize, rare: usize) -> usize {
+        match self.random.chance(3) {
+            true => rare,
+            false => usual,
+        }
+    }
+
+    fn feed(&mut self) {
+        let some = self.random.below(200);
+        let size = self.random.pick(&[0, 1, 47, 48, some, usize::MAX]);
+        let work = self.usually(LEAST_WORK, LEAST_WORK - 1);
+        let reply = self.usually(LEAST_REPLY, LEAST_REPLY - 1);
+        let piece = &self.stream[..size.min(self.stream.len())];
+        let (work, reply) = (&mut self.work[..work], &mut self.reply[..reply]);
+        let answer = self.pair.feed(piece, work, reply);
+        self.reached.add(feed_kind(&answer));
+        let Ok(fed) = answer else {
+            return;
+        };
+        self.stream.drain(..fed.consumed);
+        if let Event::Break { dropped, .. } = fed.event {
+            self.reached.add(dropping("a break", dropped.len()));
+        }
+    }
+
+    fn complete(&mut self) {
+        let (ticket, length) = self.pick_ticket();
+        let most = self.usually(length, length + 1);
+        let actual = self.random.pick(&[0, length / 2, most]);
+        let data = self.usually(actual, actual.saturating_sub(1));
+        let header = self.usually(HEADER_SIZE, HEADER_SIZE - 1);
+        let mut header = self.random.bytes(header);
+        let completion = Completion {
+            ticket,
+            status: self.random.pick(&[0, 0, 0, 0, -1, -32, i32::MIN, 1]),
+            actual: actual as u32,
+            payload: &self.frame[..data],
+        };
+        let answer = self.pair.complete(&completion, &mut header);
+        self.reached.add(match answer {
+            Ok(_) => "returned".to_string(),
+            Err(refusal) => format!("completion refused {}", refusal.number()),
+        });
+    }
+
+    /// A pending ticket and its length, or now and then one that isn't pending.
+    fn pick_ticket(&mut self) -> (u64, usize) {
+        let pending = self.pair.reference.pending();
+        if pending.is_empty() || self.random.chance(10) {
+            return (self.random.below(50) as u64, 64);
+        }
+        let urb = &pending[self.random.below(pending.len())];
+        (urb.ticket, urb.transfer_buffer_length as usize)
+    }
+
+    fn close(&mut self) {
+        self.reached.add(match self.pair.close() {
+            Ok(dropped) => dropping("a close", dropped.len()),
+            Err(refusal) => format!("close refused {}", refusal.number()),
+        });
+    }
+}
+
+fn dropping(what: &str, count: usize) -> String {
+    match count {
+        0 => format!("{what} drops nothing"),
+        MAX_PENDING => format!("{what} drops 32"),
+        _ => format!("{what} drops some"),
+    }
+}
+
+#[test]
+fn feeds_completions_and_closes_in_any_order() {
+    let mut reached = Reached::default();
+    for seed in 0..RUNS {
+        Run::new(seed, &mut reached).play();
+    }
+    let others = [
+        "returned",
+        "completion refused 1",
+        "completion refused 3",
+        "completion refused 4",
+        "completion refused 5",
+        "completion refused 6",
+        "completion refused 7",
+        "a break drops nothing",
+        "a break drops some",
+        "a close drops nothing",
+        "a close drops some",
+        "a close drops 32",
+        "close refused 3",
+    ];
+    reached.expect_exactly(&[&FEEDS[..], &others].concat());
+    assert!(reached.total() >= 200_000);
+}

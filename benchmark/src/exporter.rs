@@ -1,0 +1,85 @@
+//! The two engines, as a host calls them.
+
+use reference::sending;
+use reference::session::{Event as PlainEvent, Session as PlainSession};
+use reference::tape;
+use rimemaple::{Device, Event, Session, Table};
+use std::hint::black_box;
+
+/// A session that serves one device.
+pub trait Exporter {
+    fn open() -> Self;
+
+    fn feed(&mut self, piece: &[u8], work: &mut [u8], reply: &mut [u8]) -> Fed;
+
+    /// The length on the wire.
+    fn complete(&mut self, ticket: u64, actual: u32, data: &[u8], header: &mut [u8]) -> u64;
+
+    fn part<'a>(header: &'a [u8], data: &'a [u8], n: usize, sent: usize, most: usize) -> &'a [u8];
+}
+
+pub struct Fed {
+    pub consumed: usize,
+    pub length: usize,
+    /// Of an accepted submit.
+    pub ticket: Option<u64>,
+}
+
+impl Exporter for Session {
+    fn open() -> Session {
+        let device = Device::new(tape::PATH, tape::BUSID, tape::BUSNUM, tape::DEVNUM);
+        let table = Table::new(&[device.expect("the names fit")]).expect("one device fits");
+        Session::open(&table).expect("the table is good")
+    }
+
+    fn feed(&mut self, piece: &[u8], work: &mut [u8], reply: &mut [u8]) -> Fed {
+        let fed = black_box(self.feed(piece, work, reply)).expect("the session isn't closed");
+        Fed {
+            consumed: fed.consumed,
+            length: fed.length,
+            ticket: match fed.event {
+                Event::Submit { ticket, .. } => Some(ticket),
+                _ => None,
+            },
+        }
+    }
+
+    fn complete(&mut self, ticket: u64, actual: u32, data: &[u8], header: &mut [u8]) -> u64 {
+        self.complete(ticket, 0, actual, data, header)
+            .expect("the ticket is pending")
+    }
+
+    fn part<'a>(header: &'a [u8], data: &'a [u8], n: usize, sent: usize, most: usize) -> &'a [u8] {
+        rimemaple::part(header, data, n, sent, most)
+    }
+}
+
+impl Exporter for PlainSession {
+    fn open() -> PlainSession {
+        let (session, opened) = PlainSession::open(tape::table());
+        opened.expect("the table is good");
+        session
+    }
+
+    fn feed(&mut self, piece: &[u8], work: &mut [u8], reply: &mut [u8]) -> Fed {
+        let fed = black_box(self.feed(piece, work, reply));
+        Fed {
+            consumed: fed.consumed,
+            length: fed.length,
+            ticket: match fed.event {
+                PlainEvent::Accepted(urb) => Some(urb.ticket),
+                PlainEvent::Refused(refusal) => panic!("{refusal:?}"),
+                _ => None,
+            },
+        }
+    }
+
+    fn complete(&mut self, ticket: u64, actual: u32, data: &[u8], header: &mut [u8]) -> u64 {
+        let length = self.complete(ticket, 0, actual, data, header);
+        length.expect("the ticket is pending") as u64
+    }
+
+    fn part<'a>(header: &'a [u8], data: &'a [u8], n: usize, sent: usize, most: usize) -> &'a [u8] {
+        sending::part(header, data, n, sent, most)
+    }
+}

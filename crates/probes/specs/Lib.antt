@@ -1,2 +1,0 @@
--- The layout of a table as bytes.
-pub mod Blocks

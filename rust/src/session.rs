@@ -1,0 +1,145 @@
+//! A session, and its acts.
+
+use crate::event::{Event, Tickets};
+use crate::refusal::Refusal;
+use crate::sys::{self, Numbers};
+use crate::table::Table;
+use std::fmt;
+
+/// The state of one connection. An act puts the next session in place; a refused one leaves it as it was.
+#[derive(Clone, PartialEq, Eq)]
+pub struct Session(sys::Session);
+
+/// What a feed answers.
+#[derive(Clone, Copy, Debug, PartialEq, Eq)]
+pub struct Fed {
+    /// What happened.
+    pub event: Event,
+    /// Bytes of the piece that were used; the rest is fed next.
+    pub consumed: usize,
+    /// Bytes of the reply, at the front of the reply buffer; they go to the client.
+    pub length: usize,
+}
+
+impl Session {
+    /// A session over a table, one for each connection.
+    ///
+    /// # Panics
+    ///
+    /// If the archive is of another version than this package ([`check`](crate::check)): its structs could be others.
+    pub fn open(table: &Table) -> Result<Session, Refusal> {
+        crate::check().unwrap_or_else(|mismatch| panic!("{mismatch}"));
+        let opened = sys::rimemaple_open(table.to_sys());
+        refused(opened.refusal)?;
+        Ok(Session(opened.session))
+    }
+
+    /// Takes a piece of the client's stream, cut anywhere: up to the end of the first whole message, or all of it.
+    ///
+    /// OUT data goes to the work buffer as it comes, from 0 on: lend the same one until its message ends, and copy
+    /// the data before the next feed. `work` has at least [`WORK_LEN`](crate::WORK_LEN) bytes, `reply` at least
+    /// [`REPLY_LEN`](crate::REPLY_LEN).
+    pub fn feed(
+        &mut self,
+        piece: &[u8],
+        work: &mut [u8],
+        reply: &mut [u8],
+    ) -> Result<Fed, Refusal> {
+        // SAFETY: pointers and lengths are those of slices, of which none that is written to overlaps another.
+        let fed = unsafe {
+            sys::rimemaple_feed(
+                self.0,
+                piece.as_ptr(),
+                piece.len(),
+                work.as_mut_ptr(),
+                work.len(),
+                reply.as_mut_ptr(),
+                reply.len(),
+            )
+        };
+        self.0 = fed.session;
+        Ok(Fed {
+            event: Event::from_sys(&fed.event, fed.dropped)?,
+            consumed: fed.consumed,
+            length: fed.length,
+        })
+    }
+
+    /// Takes the device's word that a ticket is done, and tells the length of the reply on the wire.
+    ///
+    /// `status` is 0 or a negative errno, `actual` the bytes that were transferred. The payload is an IN's data; an
+    /// OUT's isn't looked at. The header gets [`HEADER_LEN`](crate::HEADER_LEN) bytes; send them and the payload by
+    /// [`part`](crate::part).
+    pub fn complete(
+        &mut self,
+        ticket: u64,
+        status: i32,
+        actual: u32,
+        payload: &[u8],
+        header: &mut [u8],
+    ) -> Result<u64, Refusal> {
+        // SAFETY: pointers and lengths are those of slices, and the one that is written to doesn't overlap the other.
+        let completed = unsafe {
+            sys::rimemaple_complete(
+                self.0,
+                ticket,
+                status,
+                actual,
+                payload.as_ptr(),
+                payload.len(),
+                header.as_mut_ptr(),
+                header.len(),
+            )
+        };
+        self.0 = completed.session;
+        refused(completed.refusal)?;
+        Ok(completed.length)
+    }
+
+    /// Ends the session, since the connection did, and tells what was pending: to be cancelled.
+    pub fn close(&mut self) -> Result<Tickets, Refusal> {
+        let closed = sys::rimemaple_close(self.0);
+        self.0 = closed.session;
+        refused(closed.refusal)?;
+        Ok(Tickets::from(closed.dropped))
+    }
+
+    /// How many submits were accepted, and what became of them.
+    pub fn numbers(&self) -> Numbers {
+        sys::rimemaple_numbers(self.0)
+    }
+
+    /// Which device is served, by its [`Device::devid`](crate::Device::devid).
+    pub fn devid(&self) -> Option<u64> {
+        let devid = sys::rimemaple_devid(self.0);
+        (devid != 0).then_some(devid)
+    }
+
+    /// As the C face has it.
+    pub fn as_sys(&self) -> &sys::Session {
+        &self.0
+    }
+}
+
+/// Any session of the C face: one whose parts don't fit together is taken for closed.
+impl From<sys::Session> for Session {
+    fn from(session: sys::Session) -> Session {
+        Session(session)
+    }
+}
+
+impl fmt::Debug for Session {
+    fn fmt(&self, f: &mut fmt::Formatter) -> fmt::Result {
+        f.debug_struct("Session")
+            .field("devid", &self.devid())
+            .field("numbers", &self.numbers())
+            .finish_non_exhaustive()
+    }
+}
+
+fn refused(number: u32) -> Result<(), Refusal> {
+    match number {
+        0 => Ok(()),
+        _ => Err(Refusal::from(number)),
+    }
+}
