@@ -1,5 +1,5 @@
-# What the README tells: run and test; the library for C and Rust.
-.PHONY: run test library
+# What the README tells: run and test; the library for C and Rust; the example host.
+.PHONY: run test library host
 
 # A tape as text (NAME.txt, see reference/README.md), or as bytes.
 TAPE ?= tapes/late-picture.txt
@@ -26,3 +26,7 @@ library:
 	@rt staticlib capi > target/lib/log 2>&1 || { cat target/lib/log; exit 1; }
 	@cp target/staticlib/libcapi.a target/lib/librimemaple.a
 	@echo "target/lib/librimemaple.a"
+
+# The example host (hosts/README.md): target/bin/deckhost.
+host: library
+	@$(MAKE) --no-print-directory -C hosts
