@@ -1,5 +1,5 @@
-# What the README tells: run and test; the library for C and Rust; the example host.
-.PHONY: run test library host
+# What the README tells: run and test; the library for C and Rust; the example host; a real kernel as its client.
+.PHONY: run test library host kernel
 
 # A tape as text (NAME.txt, see reference/README.md), or as bytes.
 TAPE ?= tapes/late-picture.txt
@@ -30,3 +30,8 @@ library:
 # The example host (hosts/README.md): target/bin/deckhost.
 host: library
 	@$(MAKE) --no-print-directory -C hosts
+
+# A real kernel as the host's client (kernel/README.md); not a part of the gate, since it downloads that kernel.
+kernel: library
+	@rt check replay trace > target/run.log 2>&1 || { cat target/run.log; exit 1; }
+	@kernel/check
