@@ -155,8 +155,8 @@ bytesAt p header payload = take (p .length) (drop (p .at) (cond (eqb (p .slice) 
 -- ## About the archive
 
 -- It rises with each change of a function, a struct or an answer.
-abbrev pub VERSION : ℕ
-VERSION = 1
+abbrev pub FACE-VERSION : ℕ
+FACE-VERSION = 1
 
 abbrev pub flatLimits : FlatLimits
 flatLimits =

@@ -7,11 +7,10 @@ use limits::REPLY_LEN;
 use limits::WORK_LEN;
 use wire::codes::HEADER_LEN;
 ghost use mathlib.Core.Path.{_≡_};
-ghost use Rattle.capi.specs.Flat;
-ghost use Rattle.capi.specs.Flat.{flatLimits};
+ghost use Rattle.capi.specs.Flat.{FACE-VERSION, flatLimits};
 
 // Rises with each change of a function, a struct or an answer.
-pub const VERSION: u32 = 1;
+pub const FACE_VERSION: u32 = 1;
 
 #[repr(C)]
 pub struct FlatLimits {
@@ -41,7 +40,7 @@ pub extern "C" fn rimemaple_limits() -> FlatLimits
 
 #[no_mangle]
 pub extern "C" fn rimemaple_version() -> u32
-    ensures { λ r. ⌜ r ≡ Flat.VERSION ⌝ }
+    ensures { λ r. ⌜ r ≡ FACE-VERSION ⌝ }
 {
-    VERSION
+    FACE_VERSION
 }

@@ -10,6 +10,7 @@ use session::state::Session;
 use wire::codes::SETUP_LEN;
 ghost use mathlib.Core.Path.{_≡_};
 ghost use Rattle.pending.specs.Pending.{noTransfer};
+ghost use Rattle.capi.specs.Flat;
 ghost use Rattle.capi.specs.Flat.{eventRow, removedTicket, flatEvent, openingNumber, completionNumber, completionLength, closingNumber};
 
 // The kinds of an event.
@@ -122,55 +123,56 @@ fn removed_ticket(removed: Removed) -> u64
     }
 }
 
+// One that has a number.
+fn numbered(kind: u32, number: u32, setup: [u8; SETUP_LEN]) -> FlatEvent
+    ensures { λ r. ⌜ r ≡ eventRow kind number 0 0 0 0 noTransfer setup ⌝ }
+{
+    let e = bare(kind, setup);
+    FlatEvent {
+        number: number,
+        ..e
+    }
+}
+
+// One that has a status, and what stands beside it.
+fn answered(kind: u32, status: u32, seqnum: u32, removed: u64, setup: [u8; SETUP_LEN]) -> FlatEvent
+    ensures { λ r. ⌜ r ≡ eventRow kind 0 status seqnum removed 0 noTransfer setup ⌝ }
+{
+    let e = bare(kind, setup);
+    FlatEvent {
+        status: status,
+        seqnum: seqnum,
+        removed: removed,
+        ..e
+    }
+}
+
+fn accepted(ticket: u64, transfer: Transfer, setup: [u8; SETUP_LEN]) -> FlatEvent
+    ensures { λ r. ⌜ r ≡ eventRow Flat.SUBMIT 0 0 0 0 ticket transfer setup ⌝ }
+{
+    let e = bare(SUBMIT, setup);
+    FlatEvent {
+        ticket: ticket,
+        transfer: transfer,
+        ..e
+    }
+}
+
 pub(crate) fn flat_event(event: Event, setup: [u8; SETUP_LEN]) -> FlatEvent
     ensures { λ r. ⌜ r ≡ flatEvent event setup ⌝ }
 {
     match event {
         Event::Hungry => bare(HUNGRY, setup),
         Event::List => bare(LIST, setup),
-        Event::Import(status) => {
-            let e = bare(IMPORT, setup);
-            FlatEvent {
-                status: status,
-                ..e
-            }
-        }
-        Event::Submit(ticket, transfer) => {
-            let e = bare(SUBMIT, setup);
-            FlatEvent {
-                ticket: ticket,
-                transfer: transfer,
-                ..e
-            }
-        }
-        Event::Answer(seqnum, status) => {
-            let e = bare(ANSWER, setup);
-            FlatEvent {
-                seqnum: seqnum,
-                status: status,
-                ..e
-            }
-        }
+        Event::Import(status) => answered(IMPORT, status, 0, 0, setup),
+        Event::Submit(ticket, transfer) => accepted(ticket, transfer, setup),
+        Event::Answer(seqnum, status) => answered(ANSWER, status, seqnum, 0, setup),
         Event::Unlink(seqnum, status, removed) => {
-            let e = bare(UNLINK, setup);
-            FlatEvent {
-                seqnum: seqnum,
-                status: status,
-                removed: removed_ticket(removed),
-                ..e
-            }
+            let ticket = removed_ticket(removed);
+            answered(UNLINK, status, seqnum, ticket, setup)
         }
-        Event::Break(fault) => {
-            let e = bare(BREAK, setup);
-            FlatEvent {
-                number: fault.number,
-                ..e
-            }
-        }
-        Event::Refused(n) => {
-            let e = bare(REFUSED, setup);
-            FlatEvent { number: n, ..e }
-        }
+        Event::Break(fault) => numbered(BREAK, fault.number, setup),
+        Event::Refused(n) => numbered(REFUSED, n, setup),
     }
 }
 
