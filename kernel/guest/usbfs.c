@@ -117,7 +117,8 @@ struct usbdevfs_urb *usbfs_reap(int fd, int ms)
     struct usbdevfs_urb *urb = NULL;
     int64_t end = now_ms() + ms;
 
-    while (ioctl(fd, USBDEVFS_REAPURBNDELAY, &urb) && errno == EAGAIN && now_ms() < end)
+    /* A device that has just gone gives its URBs back a moment later: until then reaping says ENODEV. */
+    while (ioctl(fd, USBDEVFS_REAPURBNDELAY, &urb) && (errno == EAGAIN || errno == ENODEV) && now_ms() < end)
         usleep(1000);
     return urb;
 }
