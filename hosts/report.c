@@ -119,17 +119,19 @@ void report_fed(struct report *r, const uint8_t *piece, size_t length, const str
     report_event(r, fed);
 }
 
-static void report_return(const struct report *r, const struct urb *urb, uint64_t length, const uint8_t *header)
+static void report_return(const struct report *r, const struct urb *urb, const struct rimemaple_completed *completed,
+                          const uint8_t *header)
 {
     const uint64_t n = urb->direction == RIMEMAPLE_DIR_IN ? urb->actual : 0;
 
     if (urb->state == URB_CANCELLED)
         log_line(r->connection, "UNEXPECTED: return of the cancelled ticket %" PRIu64, urb->ticket);
-    if (length != RIMEMAPLE_HEADER_LEN + n)
-        log_line(r->connection, "UNEXPECTED: the return of %" PRIu64 " has length %" PRIu64, urb->ticket, length);
+    if (completed->length != RIMEMAPLE_HEADER_LEN + n)
+        log_line(r->connection, "UNEXPECTED: the return of %" PRIu64 " has length %" PRIu64, urb->ticket,
+                 completed->length);
     if (!r->quiet)
         log_line(r->connection, "return %" PRIu64 " seq %" PRIu32 " status %" PRId32 " actual %" PRIu32,
-                 urb->ticket, be32(header + SEQNUM), urb->status, urb->actual);
+                 urb->ticket, be32(header + SEQNUM), completed->status, urb->actual);
 }
 
 void report_completed(struct report *r, const struct urb *urb, const struct rimemaple_completed *completed,
@@ -137,7 +139,7 @@ void report_completed(struct report *r, const struct urb *urb, const struct rime
 {
     r->completions++;
     if (!completed->refusal) {
-        report_return(r, urb, completed->length, header);
+        report_return(r, urb, completed, header);
     } else if (urb->state == URB_CANCELLED && completed->refusal == RIMEMAPLE_NOT_PENDING) {
         r->late++;
         if (!r->quiet)

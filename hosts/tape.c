@@ -144,7 +144,7 @@ void tape_completed(struct tape *tape, const struct urb *urb, const struct rimem
         if (completed->refusal)
             fprintf(tape->lines, "refused %" PRIu32 "\n", completed->refusal);
         else
-            fprintf(tape->lines, "return %" PRIu64 " %" PRId32 " %" PRIu32 "\n", urb->ticket, urb->status, urb->actual);
+            fprintf(tape->lines, "return %" PRIu64 " %" PRId32 " %" PRIu32 "\n", urb->ticket, completed->status, urb->actual);
         count_record(tape, &completed->session);
     }
 }

@@ -23,7 +23,7 @@ extern "C" {
 #endif
 
 /* The version of this face: it rises with each change of a function, a struct or an answer. */
-#define RIMEMAPLE_VERSION 1
+#define RIMEMAPLE_VERSION 2
 
 /* The limits (docs/PROTOCOL.md, 5). */
 #define RIMEMAPLE_MAX_DEVICES 16
@@ -199,6 +199,7 @@ struct rimemaple_fed {
 struct rimemaple_completed {
     struct rimemaple_session session;
     uint32_t refusal;                    /* 0, or the number: nothing is sent */
+    int32_t status;                      /* the status sent: the one given, or -121; 0 if refused */
     uint64_t length;                     /* of the reply on the wire: the header, and for IN the payload's first actual bytes */
 };
 
@@ -249,7 +250,8 @@ struct rimemaple_fed rimemaple_feed(struct rimemaple_session session, const uint
                                     size_t work_length, uint8_t *reply, size_t reply_length);
 
 /* The device is done with a ticket: status is 0 or a negative errno, actual the bytes that were transferred. The payload is an IN's
-   data; an OUT's isn't looked at. The header gets 48 bytes; send them and the payload by rimemaple_part. */
+   data; an OUT's isn't looked at. The header gets 48 bytes; send them and the payload by rimemaple_part. An IN whose transfer.flags have
+   URB_SHORT_NOT_OK (bit 0), given with status 0 and fewer bytes than its length, is sent with -121 (EREMOTEIO), and its data with it. */
 struct rimemaple_completed rimemaple_complete(struct rimemaple_session session, uint64_t ticket, int32_t status, uint32_t actual,
                                               const uint8_t *payload, size_t payload_length, uint8_t *header, size_t header_length);
 

@@ -217,13 +217,14 @@ static void unlink_of(uint32_t seqnum, int32_t status, uint64_t removed)
     check("its status and ticket", e.status == status && e.removed == removed);
 }
 
-static void completes(uint64_t ticket, int32_t status, uint32_t actual, size_t payload, uint32_t refusal)
+static void completes(uint64_t ticket, int32_t status, uint32_t actual, size_t payload, uint32_t refusal, int32_t sent)
 {
     static uint8_t picture[200];
     struct rimemaple_completed done =
         rimemaple_complete(session, ticket, status, actual, payload ? picture : NULL, payload, header, sizeof header);
     session = done.session;
     check("refusal", done.refusal == refusal);
+    check("status sent", done.status == sent);
     check("length on the wire", done.length == (refusal ? 0 : RIMEMAPLE_HEADER_LEN + payload));
 }
 
@@ -232,14 +233,15 @@ static void settles(void)
     unlink_of(0x01020302, -104, 3);
     unlink_of(0x01020302, 0, 0);
     unlink_of(0x01020304, -104, 5);
-    completes(3, 0, 0, 0, RIMEMAPLE_NOT_PENDING);
-    completes(2, 1, 0, 0, RIMEMAPLE_STATUS_ABOVE_0);
-    completes(2, 0, 102, 102, RIMEMAPLE_ACTUAL_TOO_LONG);
-    completes(2, 0, 101, 100, RIMEMAPLE_SHORT_DATA);
-    completes(2, -32, 101, 101, 0);
+    completes(3, 0, 0, 0, RIMEMAPLE_NOT_PENDING, 0);
+    completes(2, 1, 0, 0, RIMEMAPLE_STATUS_ABOVE_0, 0);
+    completes(2, 0, 102, 102, RIMEMAPLE_ACTUAL_TOO_LONG, 0);
+    completes(2, 0, 101, 100, RIMEMAPLE_SHORT_DATA, 0);
+    completes(2, -32, 101, 101, 0, -32);
     check("the header's status", header[20] == 0xff && header[23] == 0xe0);
-    completes(1, 0, 100, 0, 0);
-    completes(4, 0, 0, 0, 0);
+    completes(1, 0, 100, 0, 0, 0);
+    completes(4, 0, 102, 102, 0, -121);
+    check("a short read's header", header[20] == 0xff && header[23] == 0x87 && header[27] == 102);
     check("a short header buffer", rimemaple_complete(session, 6, 0, 0, NULL, 0, header, 47).refusal == RIMEMAPLE_SHORT_BUFFER);
 }
 

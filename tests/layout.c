@@ -163,6 +163,7 @@ static void print_answers(void)
     STRUCT(completed);
     FIELD(completed, session);
     FIELD(completed, refusal);
+    FIELD(completed, status);
     FIELD(completed, length);
     STRUCT(closed);
     FIELD(closed, session);

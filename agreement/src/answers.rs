@@ -1,7 +1,7 @@
 //! The answers of `reference` in the library's form.
 
 use reference::{refusal, session};
-use rimemaple::{sys, Event, Fault, Fed, Numbers, Refusal, Tickets, MAX_PENDING};
+use rimemaple::{sys, Event, Fault, Fed, Numbers, Refusal, Returned, Tickets, MAX_PENDING};
 
 pub fn fed(fed: session::Fed) -> Result<Fed, Refusal> {
     Ok(Fed {
@@ -50,6 +50,13 @@ fn accepted(accepted: &session::Urb) -> Event {
 
 pub fn refusal(refusal: refusal::Refusal) -> Refusal {
     Refusal::from(u32::from(refusal.number()))
+}
+
+pub fn returned(returned: session::Returned) -> Returned {
+    Returned {
+        length: returned.length as u64,
+        status: returned.status,
+    }
 }
 
 pub fn tickets(listed: &[u64]) -> Tickets {

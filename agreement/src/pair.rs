@@ -3,7 +3,7 @@
 use crate::{answers, tables};
 use reference::session::{Session as PlainSession, LEAST_REPLY, LEAST_WORK};
 use reference::table::Device;
-use rimemaple::{sys, Fed, Refusal, Session, Tickets};
+use rimemaple::{sys, Fed, Refusal, Returned, Session, Tickets};
 
 /// What the device side says of a ticket.
 #[derive(Clone, Copy, Debug)]
@@ -68,7 +68,11 @@ impl Pair {
         }
     }
 
-    pub fn complete(&mut self, completion: &Completion, header: &mut [u8]) -> Result<u64, Refusal> {
+    pub fn complete(
+        &mut self,
+        completion: &Completion,
+        header: &mut [u8],
+    ) -> Result<Returned, Refusal> {
         let Completion {
             ticket,
             status,
@@ -81,7 +85,7 @@ impl Pair {
         let answer = library.complete(ticket, status, actual, payload, &mut our_header);
         let reference = &mut self.reference;
         let expected = reference.complete(ticket, status, actual, payload, header);
-        let expected = expected.map(|length| length as u64);
+        let expected = expected.map(answers::returned);
         assert_eq!(answer, expected.map_err(answers::refusal), "{completion:?}");
         assert!(our_header == header, "the header of {completion:?}");
         self.compare_after(answer.is_err(), &before);

@@ -15,8 +15,9 @@ fn sent(pair: &Pair, ticket: u64, data: &[u8], most: usize) -> Vec<u8> {
         payload: data,
     };
     let mut header = [0xa5; HEADER_SIZE];
-    let length = pair.clone().complete(&completion, &mut header);
-    let n = length.expect("the ticket is pending") as usize - HEADER_SIZE;
+    let returned = pair.clone().complete(&completion, &mut header);
+    let length = returned.expect("the ticket is pending").length;
+    let n = length as usize - HEADER_SIZE;
     let mut reply = Vec::new();
     loop {
         let part = rimemaple::part(&header, data, n, reply.len(), most);

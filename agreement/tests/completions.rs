@@ -6,7 +6,8 @@ use agreement::reached::Reached;
 use agreement::tables;
 use reference::random::Random;
 use reference::table::Device;
-use reference::wire::{op_req_import, CmdSubmit, USBIP_DIR_IN, USBIP_DIR_OUT};
+use reference::wire::{op_req_import, CmdSubmit, HEADER_SIZE, USBIP_DIR_IN, USBIP_DIR_OUT};
+use rimemaple::{Refusal, Returned};
 
 /// The ticket of the submit under test; the one before it is pending, too, and the one behind it was unlinked.
 const TICKET: u64 = 2;
@@ -143,6 +144,87 @@ fn header_buffers_of_every_length() {
         }
     }
     reached.expect_exactly(&["short: 1", "long enough: 0"]);
+}
+
+/// Attached, with one submit pending, the first.
+fn asked(random: &mut Random, tested: &CmdSubmit) -> Pair {
+    let devices = tables::table(random, 1);
+    let submit = CmdSubmit {
+        devid: devices[0].devid(),
+        ..*tested
+    };
+    let before = [op_req_import(&devices[0].busid), with_data(&submit, random)].concat();
+    connection(&devices, &before, &[]).pair
+}
+
+fn status_kind(
+    tested: &CmdSubmit,
+    given: &Completion,
+    answer: Result<Returned, Refusal>,
+) -> String {
+    let size = match given.actual < tested.transfer_buffer_length {
+        true => "short",
+        false => "whole",
+    };
+    let direction = tested.direction;
+    match answer {
+        Err(refusal) => format!("refused {}", refusal.number()),
+        Ok(returned) if returned.status == given.status => {
+            format!("{size}, direction {direction}: as given")
+        }
+        Ok(returned) => {
+            let (given, sent) = (given.status, returned.status);
+            format!("{size}, direction {direction}: {sent} for {given}")
+        }
+    }
+}
+
+/// Completes a submit with actual lengths around its own and with several statuses.
+fn complete_each_way(random: &mut Random, tested: &CmdSubmit, reached: &mut Reached) {
+    let pair = asked(random, tested);
+    let length = tested.transfer_buffer_length;
+    for actual in [&[0, 1, 10, length / 2][..], &around(length)].concat() {
+        for status in [0, -1, -5, -121, i32::MIN] {
+            let completion = Completion {
+                ticket: 1,
+                status,
+                actual,
+                payload: &[0; 16_385],
+            };
+            let answer = pair.clone().complete(&completion, &mut [0; HEADER_SIZE]);
+            reached.add(status_kind(tested, &completion, answer));
+        }
+    }
+}
+
+/// Each field that decides about a short read, at its limits.
+#[test]
+fn short_reads() {
+    let mut random = Random::new(64);
+    let mut reached = Reached::default();
+    let any = random.next_u32();
+    for direction in [USBIP_DIR_IN, USBIP_DIR_OUT] {
+        for flags in [0, 1, 2, 3, 0x200, 0x201, u32::MAX - 1, u32::MAX, any] {
+            for (packets, length) in [(0, 0), (0, 1), (u32::MAX, 64), (0, 16_384)] {
+                let tested = CmdSubmit {
+                    direction,
+                    transfer_flags: flags,
+                    transfer_buffer_length: length,
+                    number_of_packets: packets,
+                    ..submit(1, 0)
+                };
+                complete_each_way(&mut random, &tested, &mut reached);
+            }
+        }
+    }
+    reached.expect_exactly(&[
+        "short, direction 1: -121 for 0",
+        "short, direction 1: as given",
+        "short, direction 0: as given",
+        "whole, direction 1: as given",
+        "whole, direction 0: as given",
+        "refused 6",
+    ]);
 }
 
 /// Sessions with nothing pending, each with its name.

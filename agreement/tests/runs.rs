@@ -101,7 +101,8 @@ impl Run<'_> {
         };
         let answer = self.pair.complete(&completion, &mut header);
         self.reached.add(match answer {
-            Ok(_) => "returned".to_string(),
+            Ok(returned) if returned.status == completion.status => "returned".to_string(),
+            Ok(returned) => format!("returned with {}", returned.status),
             Err(refusal) => format!("completion refused {}", refusal.number()),
         });
     }
@@ -140,6 +141,7 @@ fn feeds_completions_and_closes_in_any_order() {
     }
     let others = [
         "returned",
+        "returned with -121",
         "completion refused 1",
         "completion refused 3",
         "completion refused 4",

@@ -45,8 +45,8 @@ impl Exporter for Session {
     }
 
     fn complete(&mut self, ticket: u64, actual: u32, data: &[u8], header: &mut [u8]) -> u64 {
-        self.complete(ticket, 0, actual, data, header)
-            .expect("the ticket is pending")
+        let returned = self.complete(ticket, 0, actual, data, header);
+        returned.expect("the ticket is pending").length
     }
 
     fn part<'a>(header: &'a [u8], data: &'a [u8], n: usize, sent: usize, most: usize) -> &'a [u8] {
@@ -75,8 +75,8 @@ impl Exporter for PlainSession {
     }
 
     fn complete(&mut self, ticket: u64, actual: u32, data: &[u8], header: &mut [u8]) -> u64 {
-        let length = self.complete(ticket, 0, actual, data, header);
-        length.expect("the ticket is pending") as u64
+        let returned = self.complete(ticket, 0, actual, data, header);
+        returned.expect("the ticket is pending").length as u64
     }
 
     fn part<'a>(header: &'a [u8], data: &'a [u8], n: usize, sent: usize, most: usize) -> &'a [u8] {

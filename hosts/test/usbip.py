@@ -83,9 +83,9 @@ class Client:
         self.seqnum += 1
         return self.seqnum
 
-    def submit(self, direction, ep, length, data=b"", setup=bytes(8), seqnum=None, packets=0):
+    def submit(self, direction, ep, length, data=b"", setup=bytes(8), seqnum=None, packets=0, flags=0):
         seqnum = self.next_seqnum() if seqnum is None else seqnum
-        header = struct.pack(">10I8s", 1, seqnum, self.devid, direction, ep, 0, length, 0, packets, 0, setup)
+        header = struct.pack(">10I8s", 1, seqnum, self.devid, direction, ep, flags, length, 0, packets, 0, setup)
         self.pending[seqnum] = direction
         self.returned.pop(seqnum, None)
         self.send(header + data)
@@ -139,8 +139,9 @@ class Client:
     def bulk_out(self, ep, data):
         return self.wait(self.submit(OUT, ep, len(data), data))
 
-    def control_in(self, kind, request, value, index, length):
-        return self.wait(self.submit(IN, 0, length, setup=struct.pack("<BBHHH", kind, request, value, index, length)))
+    def control_in(self, kind, request, value, index, length, flags=0):
+        setup = struct.pack("<BBHHH", kind, request, value, index, length)
+        return self.wait(self.submit(IN, 0, length, setup=setup, flags=flags))
 
     def control_out(self, kind, request, value, index, data=b""):
         setup = struct.pack("<BBHHH", kind, request, value, index, len(data))

@@ -44,3 +44,4 @@ pub const ENOMEM: i32 = 12;
 pub const ENODEV: i32 = 19;
 pub const EINVAL: i32 = 22;
 pub const ECONNRESET: i32 = 104;
+pub const EREMOTEIO: i32 = 121;

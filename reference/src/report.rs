@@ -1,7 +1,7 @@
 //! Playing a tape: the lines of `replay`, and those of `trace`, which show every byte.
 
 use crate::hex;
-use crate::session::{Event, Fed, Session, Urb, LEAST_REPLY, LEAST_WORK};
+use crate::session::{Event, Fed, Returned, Session, Urb, LEAST_REPLY, LEAST_WORK};
 use crate::tape::{self, Completion, Item, Reader, Record};
 use crate::wire::{HEADER_SIZE, USBIP_DIR_OUT};
 use std::io::{self, Read, Write};
@@ -94,12 +94,16 @@ impl<W: Write> Player<W> {
             .session
             .complete(ticket, status, actual_length, &data, &mut header);
         match result {
-            Ok(_) => writeln!(self.output, "return {ticket} {status} {actual_length}")?,
+            Ok(Returned { status, .. }) => {
+                writeln!(self.output, "return {ticket} {status} {actual_length}")?
+            }
             Err(refusal) => writeln!(self.output, "refused {}", refusal.number())?,
         }
         if self.detail == Detail::Bytes {
             match result {
-                Ok(length) => writeln!(self.output, "header {length} {}", hex::encode(&header))?,
+                Ok(Returned { length, .. }) => {
+                    writeln!(self.output, "header {length} {}", hex::encode(&header))?
+                }
                 Err(_) => writeln!(self.output, "header 0 -")?,
             }
         }

@@ -1,10 +1,10 @@
 //! A session: one connection of the exporting end, and its pending URBs.
 
-use crate::refusal::{Break, Refusal, ECONNRESET, EINVAL, ENODEV, ENOMEM};
+use crate::refusal::{Break, Refusal, ECONNRESET, EINVAL, ENODEV, ENOMEM, EREMOTEIO};
 use crate::table::{self, Device};
 use crate::wire::{
     self, be16, CmdSubmit, CmdUnlink, Command, RetSubmit, HEADER_SIZE, NOT_ISOCHRONOUS,
-    OP_COMMON_SIZE, OP_REQ_IMPORT_SIZE, USBIP_DIR_IN, USBIP_DIR_OUT,
+    OP_COMMON_SIZE, OP_REQ_IMPORT_SIZE, URB_SHORT_NOT_OK, USBIP_DIR_IN, USBIP_DIR_OUT,
 };
 
 #[cfg(test)]
@@ -62,6 +62,15 @@ pub struct Fed {
     /// Bytes at the start of the reply buffer.
     pub length: usize,
     pub event: Event,
+}
+
+/// What an accepted completion answers.
+#[derive(Clone, Copy, Debug, PartialEq, Eq)]
+pub struct Returned {
+    /// Bytes on the wire.
+    pub length: usize,
+    /// The status that the client is sent.
+    pub status: i32,
 }
 
 /// Accepted submits, and how many of them have each fate.
@@ -174,7 +183,7 @@ impl Session {
         }
     }
 
-    /// Writes the 48 bytes of the return and answers its length on the wire.
+    /// Writes the 48 bytes of the return and answers its length on the wire and its status.
     pub fn complete(
         &mut self,
         ticket: u64,
@@ -182,7 +191,7 @@ impl Session {
         actual_length: u32,
         data: &[u8],
         header: &mut [u8],
-    ) -> Result<usize, Refusal> {
+    ) -> Result<Returned, Refusal> {
         if self.is_closed() {
             return Err(Refusal::Closed);
         }
@@ -195,6 +204,7 @@ impl Session {
         };
         let urb = &self.pending[index];
         check_completion(urb, status, actual_length, data)?;
+        let status = status_sent(urb, status, actual_length);
         let ret = RetSubmit {
             seqnum: urb.seqnum,
             status,
@@ -209,7 +219,10 @@ impl Session {
         };
         self.pending.remove(index);
         self.returned += 1;
-        Ok(HEADER_SIZE + data_length)
+        Ok(Returned {
+            length: HEADER_SIZE + data_length,
+            status,
+        })
     }
 
     /// Ends the session and answers the tickets of the URBs it drops.
@@ -425,6 +438,19 @@ fn check_completion(
         Err(Refusal::ShortData)
     } else {
         Ok(())
+    }
+}
+
+/// A short read that the device gives as good isn't, if the client said so.
+fn status_sent(urb: &Urb, status: i32, actual_length: u32) -> i32 {
+    let is_isochronous = ![0, NOT_ISOCHRONOUS].contains(&urb.number_of_packets);
+    let may_be_short = urb.transfer_flags & URB_SHORT_NOT_OK == 0;
+    if urb.direction != USBIP_DIR_IN || is_isochronous || may_be_short {
+        status
+    } else if status == 0 && actual_length < urb.transfer_buffer_length {
+        -EREMOTEIO
+    } else {
+        status
     }
 }
 

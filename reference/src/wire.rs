@@ -19,6 +19,9 @@ pub const USBIP_DIR_IN: u32 = 1;
 /// number_of_packets of a transfer that isn't isochronous; 0 is taken as well.
 pub const NOT_ISOCHRONOUS: u32 = 0xffff_ffff;
 
+/// The transfer_flags bit of a client that doesn't take a short read as good.
+pub const URB_SHORT_NOT_OK: u32 = 0x0000_0001;
+
 /// Version, code and status, with which every request and its reply start.
 pub const OP_COMMON_SIZE: usize = 8;
 pub const OP_REQ_IMPORT_SIZE: usize = OP_COMMON_SIZE + BUSID_SIZE;

@@ -30,7 +30,7 @@
 //!
 //! // The device is done with ticket 1. The socket takes ten bytes at a time, lent from the header and the data.
 //! let (data, mut header) = (*b"tuna", [0; HEADER_LEN]);
-//! let length = session.complete(1, 0, 4, &data, &mut header)? as usize;
+//! let length = session.complete(1, 0, 4, &data, &mut header)?.length as usize;
 //! let mut wire: Vec<u8> = Vec::new();
 //! while wire.len() < length {
 //!     wire.extend(part(&header, &data, length - HEADER_LEN, wire.len(), 10));
@@ -58,7 +58,7 @@ pub use about::{check, limits, version, Mismatch};
 pub use event::{Event, Tickets};
 pub use refusal::{Fault, Refusal};
 pub use sending::part;
-pub use session::{Fed, Session};
+pub use session::{Fed, Returned, Session};
 pub use sys::{
     Limits, Numbers, Transfer, DIR_IN, DIR_OUT, HEADER_LEN, MAX_DEVICES, MAX_INTERFACES,
     MAX_PENDING, MAX_TRANSFER, REPLY_LEN, SETUP_LEN, WORK_LEN,

@@ -21,6 +21,15 @@ pub struct Fed {
     pub length: usize,
 }
 
+/// What an accepted completion answers.
+#[derive(Clone, Copy, Debug, PartialEq, Eq)]
+pub struct Returned {
+    /// Bytes of the reply on the wire: the header, and for IN the payload's first `actual`.
+    pub length: u64,
+    /// The status that the client is sent.
+    pub status: i32,
+}
+
 impl Session {
     /// A session over a table, one for each connection.
     ///
@@ -65,11 +74,12 @@ impl Session {
         })
     }
 
-    /// Takes the device's word that a ticket is done, and tells the length of the reply on the wire.
+    /// Takes the device's word that a ticket is done, and tells the reply's length on the wire and the status sent.
     ///
     /// `status` is 0 or a negative errno, `actual` the bytes that were transferred. The payload is an IN's data; an
     /// OUT's isn't looked at. The header gets [`HEADER_LEN`](crate::HEADER_LEN) bytes; send them and the payload by
-    /// [`part`](crate::part).
+    /// [`part`](crate::part). The status sent is the one given, except that an IN whose flags have URB_SHORT_NOT_OK
+    /// (bit 0), given with 0 and fewer bytes than its length, is sent with -121 (EREMOTEIO), and its data with it.
     pub fn complete(
         &mut self,
         ticket: u64,
@@ -77,7 +87,7 @@ impl Session {
         actual: u32,
         payload: &[u8],
         header: &mut [u8],
-    ) -> Result<u64, Refusal> {
+    ) -> Result<Returned, Refusal> {
         // SAFETY: pointers and lengths are those of slices, and the one that is written to doesn't overlap the other.
         let completed = unsafe {
             sys::rimemaple_complete(
@@ -93,7 +103,10 @@ impl Session {
         };
         self.0 = completed.session;
         refused(completed.refusal)?;
-        Ok(completed.length)
+        Ok(Returned {
+            length: completed.length,
+            status: completed.status,
+        })
     }
 
     /// Ends the session, since the connection did, and tells what was pending: to be cancelled.

@@ -5,7 +5,7 @@
 //! compares every constant and the place and size of every field with the header's.
 
 /// The version of the face that is declared here.
-pub const VERSION: u32 = 1;
+pub const VERSION: u32 = 2;
 
 /// Devices of a table, at most.
 pub const MAX_DEVICES: usize = 16;
@@ -307,6 +307,8 @@ pub struct Completed {
     pub session: Session,
     /// 0 or the number.
     pub refusal: u32,
+    /// The status sent.
+    pub status: i32,
     /// Bytes of the reply on the wire.
     pub length: u64,
 }

@@ -3,8 +3,9 @@
 mod support;
 
 use rimemaple::{
-    check, limits, version, Event, Fault, Limits, Numbers, Refusal, Session, Table, DIR_OUT,
-    HEADER_LEN, MAX_DEVICES, MAX_INTERFACES, MAX_PENDING, MAX_TRANSFER, REPLY_LEN, WORK_LEN,
+    check, limits, version, Event, Fault, Limits, Numbers, Refusal, Returned, Session, Table,
+    DIR_OUT, HEADER_LEN, MAX_DEVICES, MAX_INTERFACES, MAX_PENDING, MAX_TRANSFER, REPLY_LEN,
+    WORK_LEN,
 };
 use support::{header, import, list, submit, submit_out, unlink, Host, BUSID, DEVID, UNTOUCHED};
 
@@ -197,10 +198,36 @@ fn completions_are_refused_in_the_tables_order() {
             .complete(ticket, status, actual, &[0; 63], &mut header);
         assert_eq!(done, Err(refusal));
     }
+    let returned = Returned {
+        length: 48 + 63,
+        status: -32,
+    };
     assert_eq!(
         host.session.complete(1, -32, 63, &[0; 63], &mut header),
-        Ok(48 + 63)
+        Ok(returned)
     );
+}
+
+#[test]
+fn a_short_read_is_sent_with_121_if_the_client_asked() {
+    let mut header = [0; HEADER_LEN];
+    for (flags, actual, status) in [(1, 63, -121), (1, 64, 0), (0x201, 0, -121), (2, 63, 0)] {
+        let mut host = Host::attached();
+        let mut message = submit(1, 64);
+        message[20..24].copy_from_slice(&u32::to_be_bytes(flags));
+        let ticket = host.submit(&message);
+        let returned = Returned {
+            length: 48 + u64::from(actual),
+            status,
+        };
+        assert_eq!(
+            host.session
+                .complete(ticket, 0, actual, &[0; 64], &mut header),
+            Ok(returned)
+        );
+        assert_eq!(header[20..24], status.to_be_bytes());
+        assert_eq!(header[24..28], actual.to_be_bytes());
+    }
 }
 
 #[test]

@@ -118,6 +118,7 @@ fn an_empty_slice_may_be_null() {
         assert_eq!(completed.refusal, sys::SHORT_BUFFER);
         let completed = sys::rimemaple_complete(session, 1, 0, 0, null(), 0, to, size);
         assert_eq!((completed.refusal, completed.length), (0, 48));
+        assert_eq!(completed.status, 0);
         let part = sys::rimemaple_part(null(), 0, null(), 0, 0, 0, 1);
         assert_eq!(part.length, 0);
     }

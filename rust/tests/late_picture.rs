@@ -2,7 +2,7 @@
 
 mod support;
 
-use rimemaple::{Refusal, HEADER_LEN};
+use rimemaple::{Refusal, Returned, HEADER_LEN};
 use support::{submit, unlink, Host, UNTOUCHED};
 
 const PICTURE_LEN: u32 = 16_384;
@@ -27,10 +27,14 @@ fn the_new_request_gets_its_own_picture() {
     assert_eq!(header, [UNTOUCHED; HEADER_LEN]);
     assert_eq!(host.session, before);
 
-    let length = host
+    let returned = host
         .session
         .complete(2, 0, PICTURE_LEN, &new_picture, &mut header);
-    assert_eq!(length, Ok(48 + u64::from(PICTURE_LEN)));
+    let whole = Returned {
+        length: 48 + u64::from(PICTURE_LEN),
+        status: 0,
+    };
+    assert_eq!(returned, Ok(whole));
     assert_eq!(
         header.to_vec(),
         support::header(&[3, 7, 0, 0, 0, 0, PICTURE_LEN])

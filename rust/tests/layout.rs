@@ -65,7 +65,7 @@ structs! {
     Event { kind number status seqnum removed ticket transfer setup }
     Opened { session refusal }
     Fed { session event consumed length dropped }
-    Completed { session refusal length }
+    Completed { session refusal status length }
     Closed { session refusal dropped }
     Numbers { accepted pending returned unlinked dropped }
     Part { slice at length }

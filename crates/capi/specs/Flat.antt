@@ -95,12 +95,16 @@ openingNumber Ready = 0
 openingNumber (OpeningRefused n) = n
 
 abbrev pub completionNumber : Completion → ℕ
-completionNumber (Return n) = 0
+completionNumber (Return n st) = 0
 completionNumber (CompletionRefused n) = n
 
 abbrev pub completionLength : Completion → ℕ
-completionLength (Return n) = n
+completionLength (Return n st) = n
 completionLength (CompletionRefused n) = 0
+
+abbrev pub completionStatus : Completion → ℕ
+completionStatus (Return n st) = st
+completionStatus (CompletionRefused n) = 0
 
 abbrev pub closingNumber : Closing → ℕ
 closingNumber End = 0
@@ -122,7 +126,8 @@ flatFed r =
 
 abbrev pub flatCompleted : Completed → FlatCompleted
 flatCompleted r =
-    record { session = r .session; refusal = completionNumber (r .answer); length = completionLength (r .answer) }
+    let a = r .answer in
+    record { session = r .session; refusal = completionNumber a; status = completionStatus a; length = completionLength a }
 
 abbrev pub flatClosed : Closed → FlatClosed
 flatClosed r = record { session = r .session; refusal = closingNumber (r .answer); dropped = r .dropped }
@@ -156,7 +161,7 @@ bytesAt p header payload = take (p .length) (drop (p .at) (cond (eqb (p .slice) 
 
 -- It rises with each change of a function, a struct or an answer.
 abbrev pub FACE-VERSION : ℕ
-FACE-VERSION = 1
+FACE-VERSION = 2
 
 abbrev pub flatLimits : FlatLimits
 flatLimits =

@@ -7,6 +7,7 @@ use crate::flat::FlatOpened;
 use crate::flat::closing_number;
 use crate::flat::completion_length;
 use crate::flat::completion_number;
+use crate::flat::completion_status;
 use crate::flat::flat_event;
 use crate::flat::opening_number;
 use exports::device::Table;
@@ -72,6 +73,7 @@ pub extern "C" fn rimemaple_complete(
     FlatCompleted {
         session: next,
         refusal: completion_number(answer),
+        status: completion_status(answer),
         length: completion_length(answer),
     }
 }

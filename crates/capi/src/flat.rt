@@ -11,7 +11,7 @@ use wire::codes::SETUP_LEN;
 ghost use mathlib.Core.Path.{_≡_};
 ghost use Rattle.pending.specs.Pending.{noTransfer};
 ghost use Rattle.capi.specs.Flat;
-ghost use Rattle.capi.specs.Flat.{eventRow, removedTicket, flatEvent, openingNumber, completionNumber, completionLength, closingNumber};
+ghost use Rattle.capi.specs.Flat.{eventRow, removedTicket, flatEvent, openingNumber, completionNumber, completionStatus, completionLength, closingNumber};
 
 // The kinds of an event.
 pub const HUNGRY: u32 = 0;
@@ -64,6 +64,7 @@ pub struct FlatFed {
 pub struct FlatCompleted {
     pub session: Session,
     pub refusal: u32,
+    pub status: u32,
     pub length: u64,
 }
 
@@ -189,8 +190,17 @@ pub(crate) fn completion_number(answer: Completion) -> u32
     ensures { λ r. ⌜ r ≡ completionNumber answer ⌝ }
 {
     match answer {
-        Completion::Return(_) => 0,
+        Completion::Return(_, _) => 0,
         Completion::Refused(n) => n,
+    }
+}
+
+pub(crate) fn completion_status(answer: Completion) -> u32
+    ensures { λ r. ⌜ r ≡ completionStatus answer ⌝ }
+{
+    match answer {
+        Completion::Return(_, status) => status,
+        Completion::Refused(_) => 0,
     }
 }
 
@@ -198,7 +208,7 @@ pub(crate) fn completion_length(answer: Completion) -> u64
     ensures { λ r. ⌜ r ≡ completionLength answer ⌝ }
 {
     match answer {
-        Completion::Return(n) => n,
+        Completion::Return(n, _) => n,
         Completion::Refused(_) => 0,
     }
 }

@@ -8,7 +8,7 @@ use Rattle.wire.specs.Codes
 use Rattle.pending.specs.Pending.{zeroPadded}
 use Rattle.pending.specs.declared.list.Tickets.{Tickets}
 use Rattle.limits.specs.Limits
-use Rattle.model.specs.Answers.{Outcome, refused, done, Event, hungry, list, import, submit, answer, unlink, break}
+use Rattle.model.specs.Answers.{Outcome, refused, done, Returned, Event, hungry, list, import, submit, answer, unlink, break}
 use Rattle.events.specs.declared.answer.Opening.{Opening}
 use Rattle.events.specs.declared.answer.Opening.the-variants.{Ready, Refused as OpeningRefused}
 use Rattle.events.specs.declared.answer.Removed.{Removed}
@@ -40,8 +40,8 @@ eventOf (Unlink q st r) setup ts = done (unlink q st (removedOf r))
 eventOf (Break f) setup ts = done (break f (take (ts .count) (ts .tickets)))
 eventOf (Refused n) setup ts = refused n
 
-abbrev pub completionOf : Completion → Outcome ℕ
-completionOf (Return n) = done n
+abbrev pub completionOf : Completion → Outcome Returned
+completionOf (Return wire status) = done (record { wire = wire; status = status })
 completionOf (CompletionRefused n) = refused n
 
 abbrev pub closingOf : Closing → Tickets → Outcome (List ℕ)

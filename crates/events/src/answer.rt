@@ -38,9 +38,9 @@ pub struct Answer {
     pub setup: [u8; SETUP_LEN],
 }
 
-// A completion is accepted, with the length of the reply on the wire, or refused.
+// A completion is accepted, with the length of the reply on the wire and the status sent, or refused.
 pub enum Completion {
-    Return(u64),
+    Return(u64, u32),
     Refused(u32),
 }
 

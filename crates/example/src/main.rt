@@ -60,7 +60,7 @@ fn complete(s: Session, ticket: u64, picture: &[u8], header: &mut [u8]) -> Sessi
     let done = s.complete(ticket, 0, PICTURE_LEN as u32, picture, header);
     let answer = done.answer;
     match answer {
-        Completion::Return(length) => {
+        Completion::Return(length, _) => {
             let first = part(header, picture, PICTURE_LEN, 0, SOCKET_TAKES);
             say(b"bytes to the client: ", length);
             say(b"in the first part: ", first.len() as u64)

@@ -24,7 +24,7 @@ urb =
 pub example :
     feedLines (done (import 0))
     ++ feedLines (done (submit urb))
-    ++ completionLines 1 0 64 (done 112)
+    ++ completionLines 1 64 (done (record { wire = 112; status = 0 }))
     ++ closeLines (done [])
     ++ endLine (record { accepted = 1; pending = 0; returned = 1; unlinked = 0; dropped = 0 })
     ≡ ascii "import 0\nsubmit 1 3333\nreturn 1 0 64\nclosed\nend 1 0 1 0 0\n"
@@ -37,8 +37,9 @@ pub other-lines :
     ++ feedLines (done (answer 3334 (minus Codes.ENODEV)))
     ++ feedLines (done (unlink 3335 (minus Codes.ECONNRESET) (some 1)))
     ++ feedLines (done (break (fault 12) (2 ∷ 10 ∷ [])))
-    ++ completionLines 1 0 64 (refused 3)
+    ++ completionLines 2 63 (done (record { wire = 111; status = minus Codes.EREMOTEIO }))
+    ++ completionLines 1 64 (refused 3)
     ++ closeLines (done (4 ∷ []))
-    ≡ ascii "list\nanswer 3334 -19\nunlink 3335 -104\nbroken 12\ndropped 2\ndropped 10\nrefused 3\nclosed\ndropped 4\n"
+    ≡ ascii "list\nanswer 3334 -19\nunlink 3335 -104\nbroken 12\ndropped 2\ndropped 10\nreturn 2 -121 63\nrefused 3\nclosed\ndropped 4\n"
 unfolding Digits.numeral Digits.digits
 other-lines = refl

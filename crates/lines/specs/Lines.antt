@@ -4,7 +4,7 @@ use mathlib.Core.List.{List, [], _∷_, _++_}
 use Rattle.ground.specs.Lists.{joined}
 use Rattle.pending.specs.Pending.{ticketOf, seqnumOf}
 use Rattle.pending.specs.declared.counts.Numbers.{Numbers}
-use Rattle.model.specs.Answers.{Outcome, refused, done, Event, hungry, list, import, submit, answer, unlink, break}
+use Rattle.model.specs.Answers.{Outcome, refused, done, Returned, Event, hungry, list, import, submit, answer, unlink, break}
 use Rattle.numerals.specs.Digits.{ascii, decimal, statusText}
 use Rattle.numerals.specs.Texts.{line}
 
@@ -30,9 +30,10 @@ eventLines (break fault tickets) = line "broken" (decimal (fault .number) ∷ []
 abbrev pub feedLines : Outcome Event → List ℕ
 feedLines o = outcomeLines eventLines o
 
--- Of a completion: with the ticket, the status and the actual length that the device side handed over.
-abbrev pub completionLines : (ticket status actual : ℕ) → Outcome ℕ → List ℕ
-completionLines ticket status actual o = outcomeLines (λ wire. line "return" (decimal ticket ∷ statusText status ∷ decimal actual ∷ [])) o
+-- Of a completion: the ticket and the actual length that the device side handed over, and the status sent.
+abbrev pub completionLines : (ticket actual : ℕ) → Outcome Returned → List ℕ
+completionLines ticket actual o =
+    outcomeLines (λ (r : Returned). line "return" (decimal ticket ∷ statusText (r .status) ∷ decimal actual ∷ [])) o
 
 -- Of a close.
 abbrev pub closeLines : Outcome (List ℕ) → List ℕ

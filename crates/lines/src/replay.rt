@@ -139,18 +139,12 @@ pub fn feed_lines(a: Answer, dropped: Tickets, out: &mut [u8]) -> usize
     put(t, out)
 }
 
-// The same of a completion, with what was handed over.
-pub fn complete_line(
-    ticket: u64,
-    status: u32,
-    actual: u32,
-    answer: Completion,
-    out: &mut [u8],
-) -> usize
-    ensures { λ n. ⌜ Wrote (completionLines ticket status actual (completionOf answer)) (now (out .entry)) (now (out .exit)) n ⌝ }
+// The same of a completion, with the ticket and the actual length that were handed over.
+pub fn complete_line(ticket: u64, actual: u32, answer: Completion, out: &mut [u8]) -> usize
+    ensures { λ n. ⌜ Wrote (completionLines ticket actual (completionOf answer)) (now (out .entry)) (now (out .exit)) n ⌝ }
 {
     match answer {
-        Completion::Return(_) => {
+        Completion::Return(_, status) => {
             let t = return_line(ticket, status, actual);
             put(t, out)
         }

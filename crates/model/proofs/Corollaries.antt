@@ -27,7 +27,7 @@ use Rattle.ground.specs.Tests.{first, by-first, by-test}
 use Rattle.verdicts.specs.declared.verdict.Fault.{Fault}
 use Rattle.ground.proofs.Match.{gives, clear, not-clear, one-answer}
 use Rattle.model.specs.State.{Sess, unlinked}
-use Rattle.model.specs.Answers.{Outcome, refused, done, Event, hungry, list, import, submit, answer, unlink, break, isHungry}
+use Rattle.model.specs.Answers.{Outcome, refused, done, Returned, Event, hungry, list, import, submit, answer, unlink, break, isHungry}
 use Rattle.model.specs.Judging.{urbOf, grow, judge}
 use Rattle.model.specs.Acts.{between, after, Buffers, put, writeReply, feedTestsOf, refusedFeed, feedOf, Completion, completeOf, closeOf, Open, openOf}
 use Rattle.model.specs.Book.{Call, feed, complete, close, Entry, fed, completed, closing, Book, opened, Item, item, pending, over, keep, pendingOf}
@@ -155,36 +155,38 @@ sends-bare h bytes payload e l =
     subst (λ (x : List ℕ). Sends (partOf h payload 0) x Codes.HEADER-LEN) (append-nil bytes) (sends-front h bytes payload 0 e l (omega arith))
 
 -- the header of an accepted completion, sent
-sent : (s : Sess) (b : Book) (c : Completion) (wire : ℕ) → RightComplete s b c → completeOf s c .answer ≡ done wire
-    → Sent (b .items) c wire (completeOf s c .header)
-sent s b c wire r e =
-    let a = r .accepts wire e in
+sent : (s : Sess) (b : Book) (c : Completion) (r : Returned) → RightComplete s b c → completeOf s c .answer ≡ done r
+    → Sent (b .items) c r (completeOf s c .header)
+sent s b c r right e =
+    let a = right .accepts r e in
     let y = a .0 in
     let u = a .1 .0 in
     let d = u .transfer .direction in
     let h = completeOf s c .header in
     let rest = drop Codes.HEADER-LEN (c .header) in
     let room : Codes.HEADER-LEN ≤ length (c .header) = not-less (length (c .header)) Codes.HEADER-LEN (y .1 .0) in
-    let long : Codes.HEADER-LEN ≤ length h = rw (a .1 .4) (omega (arith, length-append (headerFor u c) rest)) in
-    let front : take Codes.HEADER-LEN h ≡ headerFor u c = rw (a .1 .4) (take-at (headerFor u c) rest Codes.HEADER-LEN refl) in
+    let bytes = headerFor u c (r .status) in
+    let long : Codes.HEADER-LEN ≤ length h = rw (a .1 .5) (omega (arith, length-append bytes rest)) in
+    let front : take Codes.HEADER-LEN h ≡ bytes = rw (a .1 .5) (take-at bytes rest Codes.HEADER-LEN refl) in
     record {
       urb = u;
       held = a .1 .1;
       named = a .1 .2;
+      status = a .1 .4;
       reads =
           λ i.
-          let n : wire - Codes.HEADER-LEN ≡ c .actual = rw (a .1 .3, eq-eqb d Codes.DIR-IN i) (add-sub-cancel-left Codes.HEADER-LEN (c .actual)) in
+          let n : r .wire - Codes.HEADER-LEN ≡ c .actual = rw (a .1 .3, eq-eqb d Codes.DIR-IN i) (add-sub-cancel-left Codes.HEADER-LEN (c .actual)) in
           let f : c .actual ≤ length (c .payload) =
           not-less (length (c .payload)) (c .actual) (λ k. y .1 .1 .1 .1 .1 .0 (u, a .1 .1, a .1 .2, (i, k))) in
-          rw n (sends-front h (headerFor u c) (c .payload) (c .actual) front long f);
+          rw n (sends-front h bytes (c .payload) (c .actual) front long f);
       writes =
           λ i.
-          let n : wire - Codes.HEADER-LEN ≡ 0 = rw (a .1 .3, ne-eqb d Codes.DIR-IN i) in
-          rw n (sends-bare h (headerFor u c) (c .payload) front long);
+          let n : r .wire - Codes.HEADER-LEN ≡ 0 = rw (a .1 .3, ne-eqb d Codes.DIR-IN i) in
+          rw n (sends-bare h bytes (c .payload) front long);
     }
 
 pub completion-sent : CompletionSent
-completion-sent t cs c wire e = sent (sessionFrom t cs) (bookFrom t cs) c wire (right-from t cs (complete c) .1) e
+completion-sent t cs c r e = sent (sessionFrom t cs) (bookFrom t cs) c r (right-from t cs (complete c) .1) e
 
 -- ## A ticket that ended
 

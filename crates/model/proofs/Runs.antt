@@ -26,9 +26,10 @@ use Rattle.limits.specs.Limits
 use Rattle.ground.specs.Tests.{Test, first, by-first, pick, by-test}
 use Rattle.ground.specs.Rows.{Gives, Clear}
 use Rattle.ground.proofs.Match.{Match, gives, clear}
+use Rattle.verdicts.specs.Verdicts.{statusSent}
 use Rattle.model.specs.Machine.{Fed}
 use Rattle.model.specs.State.{Sess, headerIn, returned, unlinked}
-use Rattle.model.specs.Answers.{Outcome, refused, done, Event, hungry, list, import, submit, answer, unlink, break, isHungry}
+use Rattle.model.specs.Answers.{Outcome, refused, done, Returned, Event, hungry, list, import, submit, answer, unlink, break, isHungry}
 use Rattle.model.specs.Judging.{grow, judge}
 use Rattle.model.specs.Acts.{settles, between, deviceOf, afterUnlink, after, importBytes, replyFor, replyTo, Buffers, put, feedBytes, feedTestsOf}
 use Rattle.model.specs.Acts.{refusedFeed, doneFeed, feedOf, Completion, theTransfer, completionTestsOf, Complete, refusedCompletion, completeOf, Close}
@@ -37,11 +38,11 @@ use Rattle.model.specs.Book.{Call, feed, complete, close, Entry, fed, co
 use Rattle.model.specs.Book.{drop-all, shut, nothing, apply, removal, effectOf, keepEvent, keep, pendingOf, Pending}
 use Rattle.model.specs.Cut.{stepAll, outcomeReply, replied, written}
 use Rattle.model.specs.Claims.{entryOf, nextOf, header, feedRowsBy, completionRowsBy, closeRowsBy, headerRowsBy, RightRequest, RightMessage, byPhase}
-use Rattle.model.specs.Claims.{Replies, placeOf, dataIn, headerFor, Right, Agrees, Grown, Moves, consumedFor, Progresses, AttachesBy, Attaches, Holds}
-use Rattle.model.specs.Claims.{EveryRun}
+use Rattle.model.specs.Claims.{Replies, placeOf, dataIn, SentAs, headerFor, Right, Agrees, Grown, Moves, consumedFor, Progresses, AttachesBy}
+use Rattle.model.specs.Claims.{Attaches, Holds, EveryRun}
 use Rattle.ground.proofs.Cases.{differ, never-true}
 use Rattle.model.proofs.Facts.{sum, grown-refl, tickets-rise, mem-to, mem-from, pending-before}
-use Rattle.model.proofs.Tables.{feed-match, completion-match}
+use Rattle.model.proofs.Tables.{feed-match, completion-match, sent-as}
 use Rattle.model.proofs.Steps.{messageIn, heading, bodied, header-in, place-in, room-in, short, sessionOf, grow-is, Fit, fit-part, Allowed, act}
 use Rattle.model.proofs.Steps.{phaseAfter, by-seqnum, step, act-is}
 use Rattle.model.proofs.Judged.{Going, came, Judged, looked-up, judge-right}
@@ -294,7 +295,7 @@ progresses : (b : Book) (a : Entry) → Progresses (b .part) a (keep b a .part)
 progresses b (fed p (refused n) k) = refl
 progresses b (fed p (done e) k) = ((λ h. rw h (apply-part (took b (take k p)) (effectOf e))), λ h. rw h)
 progresses b (completed t (refused n)) = refl
-progresses b (completed t (done wire)) = refl
+progresses b (completed t (done r)) = refl
 progresses b (closing (refused n)) = refl
 progresses b (closing (done ts)) = refl
 
@@ -409,13 +410,14 @@ module _ (t : Table) (phase devid : ℕ) (b : Book) (f : Fit phase b) (g : Going
 
     pub record CompleteHolds (r : Complete) : Type 0 where
       pub refuses : (n : ℕ) → r .answer ≡ refused n → Gives (completionRowsBy b c) n × (r .header ≡ c .header) × (r .next ≡ now′)
-      pub accepts : (wire : ℕ) → r .answer ≡ done wire
+      pub accepts : (a : Returned) → r .answer ≡ done a
           → Clear (completionRowsBy b c)
           × ((u : Urb)
           × Pending (b .items) u
           × (ticketOf u ≡ c .ticket)
-          × (wire ≡ wireLength (u .transfer .direction) (c .actual))
-          × (r .header ≡ over (headerFor u c) (c .header)))
+          × (a .wire ≡ wireLength (u .transfer .direction) (c .actual))
+          × SentAs u c (a .status)
+          × (r .header ≡ over (headerFor u c (a .status)) (c .header)))
       pub left : Left t phase devid b (completed (c .ticket) (r .answer)) (r .next)
 
     abbrev tests : List (Test ℕ)
@@ -439,8 +441,9 @@ module _ (t : Table) (phase devid : ℕ) (b : Book) (f : Fit phase b) (g : Going
         absurd (clear tests (completionRowsBy b c) match h .1 .1 .0 (λ u m k. missing u (mem-from u (b .items) m) k))
     complete-found h (some u) e = (u, e)
 
-    complete-left : (u : Urb) (wire : ℕ) → held ≡ some u → Left t phase devid b (completed (c .ticket) (done wire)) (settles ticketOf (c .ticket) returned now′)
-    complete-left u wire e =
+    complete-left : (u : Urb) (r : Returned) → held ≡ some u
+        → Left t phase devid b (completed (c .ticket) (done r)) (settles ticketOf (c .ticket) returned now′)
+    complete-left u r e =
         let s = step phase b (settle (c .ticket) returned) f (u, e) in
         record {
           session = act-is t phase devid b (settle (c .ticket) returned) f (u, e);
@@ -451,6 +454,12 @@ module _ (t : Table) (phase devid : ℕ) (b : Book) (f : Fit phase b) (g : Going
           attaches = (refl, refl);
         }
 
+    -- what is answered, by what is pending under the ticket
+    abbrev answered : Option Urb → Returned
+    answered o =
+        let u = theTransfer o in
+        record { wire = wireLength (u .direction) (c .actual); status = statusSent u (c .status) (c .actual) }
+
     complete-holds : CompleteHolds (completeOf now′ c)
     unfolding completeOf
     complete-holds =
@@ -459,13 +468,18 @@ module _ (t : Table) (phase devid : ℕ) (b : Book) (f : Fit phase b) (g : Going
         let w = complete-found h held refl in
         let u = w .0 in
         let q = find-some ticketOf (c .ticket) (pendingOf (b .items)) u (w .1) in
-        let long : wireLength (theTransfer held .direction) (c .actual) ≡ wireLength (u .transfer .direction) (c .actual) =
-        ap (λ o. wireLength (theTransfer o .direction) (c .actual)) (w .1) in
-        let written = ap (λ o. over (replyFor (theTransfer o) (c .status) (c .actual)) (c .header)) (w .1) in
         record {
           refuses = λ n k. differ (cc);
-          accepts = λ wire k. (clear tests (completionRowsBy b c) match h, (u, mem-to u (b .items) (q .1), q .0, (cc), written));
-          left = complete-left u _ (w .1);
+          accepts =
+              λ r k.
+              let e : answered held ≡ r = cc in
+              let f : answered (some u) ≡ r = ap answered (sym (w .1)) ∙ e in
+              let long = ap (λ (z : Returned). z .wire) (sym f) in
+              let sent = subst (λ (z : Returned). SentAs u c (z .status)) f (sent-as u c) in
+              let written : over (replyFor (theTransfer held) (answered held .status) (c .actual)) (c .header) ≡ over (headerFor u c (r .status)) (c .header) =
+              λ i. over (replyFor (theTransfer (w .1 i)) (e i .status) (c .actual)) (c .header) in
+              (clear tests (completionRowsBy b c) match h, (u, mem-to u (b .items) (q .1), q .0, long, sent, written));
+          left = complete-left u (answered held) (w .1);
         }
 
   -- ## Closing

@@ -8,18 +8,20 @@ use mathlib.Core.Option.{Option, none, some}
 use lib.ListN.{length}
 use Rattle.messages.specs.Messages.{headerOf}
 use Rattle.messages.specs.declared.message.Transfer.{Transfer}
-use Rattle.ground.proofs.Tests.{not-iff}
+use Rattle.ground.proofs.Tests.{not-iff, refutes}
+use Rattle.ground.proofs.Cases.{by-cond}
 use Rattle.pending.specs.Pending.{ticketOf, seqnumOf, findBy, found}
 use Rattle.pending.specs.declared.urb.Urb.{Urb}
 use Rattle.pending.proofs.Finding.{find-some, find-none}
 use Rattle.ground.proofs.Match.{Match}
+use Rattle.verdicts.specs.Verdicts.{shortRead, statusSent}
 use Rattle.verdicts.proofs.Tables
-use Rattle.verdicts.proofs.Tables.{iff-refl}
+use Rattle.verdicts.proofs.Tables.{iff-refl, short-read-iff}
 use Rattle.model.specs.State.{Sess, closed}
 use Rattle.model.specs.Judging.{submitTestsOf, headerTestsOf}
 use Rattle.model.specs.Acts.{Buffers, feedTestsOf, Completion, theTransfer, completing, completionTestsOf}
 use Rattle.model.specs.Book.{Book, Item, pendingOf, SomePending, NonePending}
-use Rattle.model.specs.Claims.{Counted, Holder, feedRowsBy, completionRowsBy, headerRowsBy, submitRowsBy}
+use Rattle.model.specs.Claims.{Counted, Holder, feedRowsBy, completionRowsBy, headerRowsBy, submitRowsBy, SentAs}
 use Rattle.model.proofs.Facts.{mem-to, mem-from, distinct-one, tickets-distinct}
 
 -- ## Pending items and keys
@@ -79,3 +81,12 @@ completion-match s b c e p counted =
     rw (e, p)
     (Tables.completion-match (completing (b .closed) o c) _ _ _ iff-refl (none-iff (b .items) ticketOf (c .ticket))
     (λ f P. holder b (c .ticket) counted o refl f (λ u. P (u .length) (u .direction))))
+
+-- ## The status sent
+
+pub sent-as : (u : Urb) (c : Completion) → SentAs u c (statusSent (u .transfer) (c .status) (c .actual))
+sent-as u c =
+    let iff = short-read-iff (u .transfer) (c .status) (c .actual) in
+    by-cond (SentAs u c) (shortRead (u .transfer) (c .status) (c .actual))
+    (λ h. ((λ _. refl), λ n. absurd (n (iff .0 h))))
+    (λ h. ((λ y. absurd (refutes iff h y)), λ _. refl))

@@ -28,7 +28,7 @@ use Rattle.verdicts.specs.declared.verdict.Completing.{Completing}
 use Rattle.model.specs.Machine.{Fed, feed}
 use Rattle.model.specs.State.{Message, partly, headed, Sess, closed, withLink, withPend, inPhase, withMessage, withCounts, attachedAs, noMessage}
 use Rattle.model.specs.State.{headerIn, End, returned, unlinked, dropped, ended, oneAccepted}
-use Rattle.model.specs.Answers.{Outcome, refused, done, Event, hungry, list, import, submit, answer, unlink, break, isHungry}
+use Rattle.model.specs.Answers.{Outcome, refused, done, Returned, Event, hungry, list, import, submit, answer, unlink, break, isHungry}
 use Rattle.model.specs.Judging.{grow, judge, lookedUp}
 
 -- ## What becomes of the session
@@ -163,23 +163,24 @@ named s c = findBy ticketOf (c .ticket) (s .pend)
 abbrev pub completionTestsOf : Sess → Completion → List (Test ℕ)
 completionTestsOf s c = Verdicts.completionTests (completing (closed s) (named s c) c)
 
--- The length of the reply on the wire, the header buffer at exit, the next session.
+-- What is returned, the header buffer at exit, the next session.
 pub record Complete : Type 0 where
-  pub answer : Outcome ℕ
+  pub answer : Outcome Returned
   pub header : List ℕ
   pub next : Sess
 
 abbrev pub refusedCompletion : Sess → Completion → ℕ → Complete
 refusedCompletion s c n = record { answer = refused n; header = c .header; next = s }
 
--- "An accepted completion writes the first 48 header bytes, no others, and answers the wire length"
+-- "An accepted completion writes the first 48 header bytes, no others, and answers the wire length"; header and answer have the status sent.
 unfoldable pub completeOf : Sess → Completion → Complete
 completeOf s c =
     let u = theTransfer (named s c) in
+    let sent = Verdicts.statusSent u (c .status) (c .actual) in
     decide (first (completionTestsOf s c)) (refusedCompletion s c)
     (record {
-      answer = done (wireLength (u .direction) (c .actual));
-      header = over (replyFor u (c .status) (c .actual)) (c .header);
+      answer = done (record { wire = wireLength (u .direction) (c .actual); status = sent });
+      header = over (replyFor u sent (c .actual)) (c .header);
       next = settles ticketOf (c .ticket) returned s;
     })
 

@@ -6,11 +6,16 @@ use mathlib.Core.Option.{Option}
 use Rattle.pending.specs.declared.urb.Urb.{Urb}
 use Rattle.verdicts.specs.declared.verdict.Fault.{Fault}
 
--- An act is refused, with a number, or done, with what it answers then: a feed its event, a completion the reply's length on the wire, a
--- close the tickets that it dropped.
+-- An act is refused, with a number, or done, with what it answers then: a feed its event, a completion what is returned, a close the
+-- tickets that it dropped.
 pub data Outcome (A : Type 0) : Type 0 where
   refused : (number : ℕ) → Outcome A
   done : A → Outcome A
+
+-- What a URB is returned with: the length of the reply on the wire, and the status sent.
+pub record Returned : Type 0 where
+  pub wire : ℕ
+  pub status : ℕ
 
 -- Hungry is the rules' word for a feed that ends within a message, a break for a fault in the stream that ends the session. `answer` is to
 -- a refused submit, with its seqnum; an unlink has its own seqnum and the ticket that it removed.

@@ -10,7 +10,7 @@ use Rattle.pending.specs.Pending.{ticketOf}
 use Rattle.pending.specs.declared.counts.Numbers.{Numbers}
 use Rattle.pending.specs.declared.urb.Urb.{Urb}
 use Rattle.model.specs.State.{End, returned, unlinked, dropped}
-use Rattle.model.specs.Answers.{Outcome, refused, done, Event, hungry, list, import, submit, answer, unlink, break, isHungry}
+use Rattle.model.specs.Answers.{Outcome, refused, done, Returned, Event, hungry, list, import, submit, answer, unlink, break, isHungry}
 use Rattle.model.specs.Acts.{Buffers, Completion}
 
 -- ## Calls and answers
@@ -23,7 +23,7 @@ pub data Call : Type 0 where
 -- What the book takes of a call and its answer.
 pub data Entry : Type 0 where
   fed : (piece : List ℕ) → Outcome Event → (consumed : ℕ) → Entry
-  completed : (ticket : ℕ) → Outcome ℕ → Entry
+  completed : (ticket : ℕ) → Outcome Returned → Entry
   closing : Outcome (List ℕ) → Entry
 
 -- ## The book
@@ -106,7 +106,7 @@ abbrev pub keep : Book → Entry → Book
 keep b (fed piece (refused n) consumed) = b
 keep b (fed piece (done e) consumed) = keepEvent (took b (take consumed piece)) e
 keep b (completed ticket (refused n)) = b
-keep b (completed ticket (done wire)) = apply b (settle ticket returned)
+keep b (completed ticket (done r)) = apply b (settle ticket returned)
 keep b (closing (refused n)) = b
 keep b (closing (done ts)) = withPart [] (apply b (drop-all ts))
 

@@ -26,11 +26,11 @@ use Rattle.pending.specs.declared.urb.Urb.{Urb}
 use Rattle.limits.specs.Limits
 use Rattle.ground.specs.Rows.{Row, row, Gives, Clear}
 use Rattle.verdicts.specs.Verdicts
-use Rattle.verdicts.specs.Verdicts.{Not}
+use Rattle.verdicts.specs.Verdicts.{Not, ShortRead}
 use Rattle.verdicts.specs.declared.verdict.Completing.{Completing}
 use Rattle.verdicts.specs.declared.verdict.Fault.{Fault}
 use Rattle.model.specs.State.{partly, headed, Sess, closed, numbersOf, End, returned, unlinked, dropped}
-use Rattle.model.specs.Answers.{Outcome, refused, done, Event, hungry, list, import, submit, answer, unlink, break, isHungry}
+use Rattle.model.specs.Answers.{Outcome, refused, done, Returned, Event, hungry, list, import, submit, answer, unlink, break, isHungry}
 use Rattle.model.specs.Judging.{urbOf}
 use Rattle.model.specs.Acts.{Buffers, Completion, feedOf, completeOf, closeOf, openOf}
 use Rattle.model.specs.Cut.{written}
@@ -218,21 +218,29 @@ pub record RightFeed (s : Sess) (b : Book) (piece : List ℕ) (lent : Buffers) :
   pub work : let r = feedOf s lent piece in
       r .buffers .work ≡ sets (lent .work) (placeOf (b .part)) (dataIn (b .part) (take (r .consumed) piece))
 
--- The reply to the completion of a URB: RET_SUBMIT under the URB's own seqnum.
-abbrev pub headerFor : Urb → Completion → List ℕ
-headerFor u c =
-    retSubmit (record { seqnum = seqnumOf u; status = c .status; actual = c .actual; start = u .transfer .start; packets = u .transfer .packets })
+-- The status sent: -121 exactly for a short read, that is a completion with status 0 and an actual length below the transfer's length, of a
+-- non-isochronous IN URB with the flag URB_SHORT_NOT_OK; of any other completion the status given.
+abbrev pub SentAs : Urb → Completion → (status : ℕ) → Type 0
+SentAs u c status =
+    let short = ShortRead (u .transfer) (c .status) (c .actual) in
+    (short → status ≡ minus Codes.EREMOTEIO) × ((short → ⊥) → status ≡ c .status)
+
+-- The reply to the completion of a URB: RET_SUBMIT under the URB's own seqnum, with the status sent.
+abbrev pub headerFor : Urb → Completion → (status : ℕ) → List ℕ
+headerFor u c status =
+    retSubmit (record { seqnum = seqnumOf u; status = status; actual = c .actual; start = u .transfer .start; packets = u .transfer .packets })
 
 pub record RightComplete (s : Sess) (b : Book) (c : Completion) : Type 0 where
   pub refuses : (n : ℕ) → completeOf s c .answer ≡ refused n
       → Gives (completionRowsBy b c) n × (completeOf s c .header ≡ c .header) × (completeOf s c .next ≡ s)
-  pub accepts : (wire : ℕ) → completeOf s c .answer ≡ done wire
+  pub accepts : (r : Returned) → completeOf s c .answer ≡ done r
       → Clear (completionRowsBy b c)
       × ((u : Urb)
       × Pending (b .items) u
       × (ticketOf u ≡ c .ticket)
-      × (wire ≡ wireLength (u .transfer .direction) (c .actual))
-      × (completeOf s c .header ≡ over (headerFor u c) (c .header)))
+      × (r .wire ≡ wireLength (u .transfer .direction) (c .actual))
+      × SentAs u c (r .status)
+      × (completeOf s c .header ≡ over (headerFor u c (r .status)) (c .header)))
 
 pub record RightClose (s : Sess) (b : Book) : Type 0 where
   pub refuses : (n : ℕ) → closeOf s .answer ≡ refused n → Gives (closeRowsBy b) n × (closeOf s .next ≡ s)
@@ -314,7 +322,7 @@ Moves is (fed p (done (unlink q st none)) k) js = js ≡ is
 Moves is (fed p (done (unlink q st (some t))) k) js = Settled t unlinked is js
 Moves is (fed p (done (break f ts)) k) js = Emptied is js
 Moves is (completed t (refused n)) js = js ≡ is
-Moves is (completed t (done wire)) js = Settled t returned is js
+Moves is (completed t (done r)) js = Settled t returned is js
 Moves is (closing (refused n)) js = js ≡ is
 Moves is (closing (done ts)) js = Emptied is js
 

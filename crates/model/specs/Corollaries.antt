@@ -22,12 +22,12 @@ use Rattle.ground.specs.Rows.{Row, Gives, Clear}
 use Rattle.verdicts.specs.Verdicts.{Not}
 use Rattle.verdicts.specs.declared.verdict.Fault.{Fault}
 use Rattle.model.specs.State.{Sess, End}
-use Rattle.model.specs.Answers.{Outcome, refused, done, Event, hungry, list, import, submit, answer, unlink, break}
+use Rattle.model.specs.Answers.{Outcome, refused, done, Returned, Event, hungry, list, import, submit, answer, unlink, break}
 use Rattle.model.specs.Judging.{urbOf}
 use Rattle.model.specs.Acts.{between, Buffers, Completion, feedOf, refusedFeed, completeOf, closeOf, Open, openOf}
 use Rattle.model.specs.Book.{Call, feed, Book, opened, Item, item, over, keep, pendingOf, Pending, NonePending}
 use Rattle.model.specs.Claims.{entryOf, nextOf, header, messageLen, byPhase, feedRowsBy, completionRowsBy, closeRowsBy, headerRowsBy, submitRowsBy}
-use Rattle.model.specs.Claims.{headerFor}
+use Rattle.model.specs.Claims.{SentAs, headerFor}
 
 -- ## The run of the definitions, and the book kept from it
 
@@ -109,21 +109,24 @@ CancelledTicket = (t : Table) (cs later : List Call) (p : List ℕ) (lent : Buff
 -- ## Sending
 
 -- After every list of calls: an accepted completion, sent with n = its wire length less 48, puts out exactly the 48 bytes of its own
--- URB's RET_SUBMIT and, for IN, the first actual_length bytes of the device's data: in order, whatever each step may send, and
--- within as many steps as there are bytes if each may send one. After the reply to an OUT nothing follows.
-pub record Sent (is : List Item) (c : Completion) (wire : ℕ) (header : List ℕ) : Type 0 where
+-- URB's RET_SUBMIT, with the status that it answered, and, for IN, the first actual_length bytes of the device's data, also of a short
+-- read: in order, whatever each step may send, and within as many steps as there are bytes if each may send one. After the reply to an OUT
+-- nothing follows.
+pub record Sent (is : List Item) (c : Completion) (r : Returned) (header : List ℕ) : Type 0 where
   pub urb : Urb
   pub held : Pending is urb
   pub named : ticketOf urb ≡ c .ticket
+  pub status : SentAs urb c (r .status)
   pub reads : urb .transfer .direction ≡ Codes.DIR-IN
-      → Sends (partOf header (c .payload) (wire - Codes.HEADER-LEN)) (headerFor urb c ++ take (c .actual) (c .payload)) (Codes.HEADER-LEN + c .actual)
+      → Sends (partOf header (c .payload) (r .wire - Codes.HEADER-LEN)) (headerFor urb c (r .status) ++ take (c .actual) (c .payload))
+      (Codes.HEADER-LEN + c .actual)
   pub writes : Not (urb .transfer .direction) Codes.DIR-IN
-      → Sends (partOf header (c .payload) (wire - Codes.HEADER-LEN)) (headerFor urb c) Codes.HEADER-LEN
+      → Sends (partOf header (c .payload) (r .wire - Codes.HEADER-LEN)) (headerFor urb c (r .status)) Codes.HEADER-LEN
 
 abbrev pub CompletionSent : Type 0
-CompletionSent = (t : Table) (cs : List Call) (c : Completion) (wire : ℕ)
-    → let r = completeOf (sessionFrom t cs) c in
-    r .answer ≡ done wire → Sent (bookFrom t cs .items) c wire (r .header)
+CompletionSent = (t : Table) (cs : List Call) (c : Completion) (r : Returned)
+    → let act = completeOf (sessionFrom t cs) c in
+    act .answer ≡ done r → Sent (bookFrom t cs .items) c r (act .header)
 
 -- ## A submit
 

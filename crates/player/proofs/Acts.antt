@@ -22,14 +22,14 @@ use Rattle.player.specs.declared.record.Played.{Played}
 pub completion-played : (traced : Bool) (ticket status actual : ℕ) (r : Completed) (s : Sess) (payload left entry exit : List ℕ) (len : ℕ)
     → payload ≡ deviceData
     → completedAs r left ≡ completeOf s (handed ticket status actual payload (replicate Codes.HEADER-LEN 0))
-    → Puts (completionText traced ticket status actual (completionOf (r .answer)) left) entry exit len
+    → Puts (completionText traced ticket actual (completionOf (r .answer)) left) entry exit len
     → (b : Buffers) → Plays (record { session = r .session; len = len }) (playCompletion traced ticket status actual s b) b entry exit
 completion-played traced ticket status actual r s payload left entry exit len f e p b =
     let d : completedAs r left ≡ completeOf s (handed ticket status actual deviceData (replicate Codes.HEADER-LEN 0)) = rw f at e in
     record {
       next = ap (λ (x : Complete). x .next) d;
       buffers = refl;
-      lines = subst (λ (x : Complete). Puts (completionText traced ticket status actual (x .answer) (x .header)) entry exit len) d p;
+      lines = subst (λ (x : Complete). Puts (completionText traced ticket actual (x .answer) (x .header)) entry exit len) d p;
     }
 
 pub close-played : (r : Closed) (s : Sess) (entry exit : List ℕ) (len : ℕ)

@@ -63,7 +63,7 @@ playStream traced (suc turns) s b bytes =
 abbrev pub playCompletion : Bool → (ticket status actual : ℕ) → Sess → Buffers → Play
 playCompletion traced ticket status actual s b =
     let r = completeOf s (handed ticket status actual deviceData (replicate Codes.HEADER-LEN 0)) in
-    record { text = completionText traced ticket status actual (r .answer) (r .header); next = r .next; buffers = b }
+    record { text = completionText traced ticket actual (r .answer) (r .header); next = r .next; buffers = b }
 
 abbrev pub playClose : Sess → Buffers → Play
 playClose s b = let r = closeOf s in record { text = closeLines (r .answer); next = r .next; buffers = b }

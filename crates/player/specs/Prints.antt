@@ -8,7 +8,7 @@ use lib.ListN.{length, take}
 use Rattle.wire.specs.Codes
 use Rattle.ground.specs.Writing.{over}
 use Rattle.pending.specs.declared.urb.Urb.{Urb}
-use Rattle.model.specs.Answers.{Outcome, refused, done, Event, hungry, list, import, submit, answer, unlink, break}
+use Rattle.model.specs.Answers.{Outcome, refused, done, Returned, Event, hungry, list, import, submit, answer, unlink, break}
 use Rattle.lines.specs.Lines.{feedLines, completionLines}
 use Rattle.traces.specs.Traces.{feedTrace, recordTrace, dataTrace, removedTrace, headerTrace}
 
@@ -52,5 +52,5 @@ feedText traced o consumed length work reply = withTraces traced (feedLines o) (
 
 -- ## A completion, with the header that it left
 
-abbrev pub completionText : Bool → (ticket status actual : ℕ) → Outcome ℕ → (header : List ℕ) → List ℕ
-completionText traced ticket status actual o header = withTraces traced (completionLines ticket status actual o) (headerTrace o header)
+abbrev pub completionText : Bool → (ticket actual : ℕ) → Outcome Returned → (header : List ℕ) → List ℕ
+completionText traced ticket actual o header = withTraces traced (completionLines ticket actual o) (headerTrace o header)

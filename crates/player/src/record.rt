@@ -36,7 +36,7 @@ fn play_completion(
     let done = session.complete(ticket, status, actual, &data, &mut header);
     let answer = done.answer;
     let next = done.session;
-    let len = put_completion(traced, ticket, status, actual, answer, &header, out);
+    let len = put_completion(traced, ticket, actual, answer, &header, out);
     Played {
         session: next,
         len: len,

@@ -105,20 +105,19 @@ pub(crate) fn put_feed(
     n
 }
 
-// The lines of a completion, with what the device side handed over and the header that it left.
+// The lines of a completion, with the ticket and the actual length that the device side handed over, and the header that it left.
 pub(crate) fn put_completion(
     traced: bool,
     ticket: u64,
-    status: u32,
     actual: u32,
     answer: Completion,
     header: &[u8],
     out: &mut [u8],
 ) -> usize
     ensures { λ n.
-        ⌜ Puts (completionText traced ticket status actual (completionOf answer) (now (header .entry))) (now (out .entry)) (now (out .exit)) n ⌝ }
+        ⌜ Puts (completionText traced ticket actual (completionOf answer) (now (header .entry))) (now (out .entry)) (now (out .exit)) n ⌝ }
 {
-    let n = complete_line(ticket, status, actual, answer, out);
+    let n = complete_line(ticket, actual, answer, out);
     if traced {
         return n + trace_header(answer, header, &mut out[n..]);
     }

@@ -151,7 +151,7 @@ feed-case (Break f) setup ts n h = cc
 feed-case (Refused m) setup ts n h = cc
 
 complete-case : (e : Completion) (n : ℕ) → completionOf e ≡ refused n → e ≡ CompletionRefused n
-complete-case (Return m) n h = cc
+complete-case (Return m st) n h = cc
 complete-case (CompletionRefused m) n h = cc
 
 close-case : (e : Closing) (ts : Tickets) (n : ℕ) → closingOf e ts ≡ refused n → e ≡ ClosingRefused n

@@ -51,9 +51,10 @@ look-transfer ticket us = at (findBy ticketOf ticket us) refl
 abbrev acceptedCompletion : Sess → Acts.Completion → Acts.Complete
 acceptedCompletion s c =
     let u = theTransfer (Acts.named s c) in
+    let sent = Verdicts.statusSent u (c .status) (c .actual) in
     record {
-      answer = done (wireLength (u .direction) (c .actual));
-      header = over (Acts.replyFor u (c .status) (c .actual)) (c .header);
+      answer = done (record { wire = wireLength (u .direction) (c .actual); status = sent });
+      header = over (Acts.replyFor u sent (c .actual)) (c .header);
       next = Acts.settles ticketOf (c .ticket) returned s;
     }
 
@@ -146,9 +147,10 @@ module _ (t : Table) (k : Link) (l : Pending) (c : Acts.Completion) (w : Whole l
         fits = λ _. good .1;
         done =
             (λ i.
+            let sent = Verdicts.statusSent (u i) (c .status) (c .actual) in
             record {
-              answer = done (wireLength (u i .direction) (c .actual));
-              header = over (Acts.replyFor (u i) (c .status) (c .actual)) (c .header);
+              answer = done (record { wire = wireLength (u i .direction) (c .actual); status = sent });
+              header = over (Acts.replyFor (u i) sent (c .actual)) (c .header);
               next = e i;
             })
             ∙ sym (complete-returns (viewOfParts s) c (ap first (sym judged) ∙ f));

@@ -20,7 +20,7 @@ use Rattle.pending.specs.declared.look.Key.the-variants.{Ticket}
 use Rattle.pending.specs.declared.look.Look.{Look}
 use Rattle.limits.specs.Limits
 use Rattle.ground.specs.Tests.{first, decide}
-use Rattle.verdicts.specs.Verdicts.{completionTests}
+use Rattle.verdicts.specs.Verdicts.{completionTests, statusSent}
 use Rattle.verdicts.specs.declared.verdict.Completing.{Completing}
 use Rattle.model.specs.Acts
 use Rattle.model.specs.Acts.{Complete, completeOf, Close, closeOf}
@@ -49,8 +49,16 @@ judgedBy phase look given payload header =
       direction = look .transfer .direction;
     }
 
+-- The reply to a URB, with the status sent; the answer has the same.
 abbrev pub returnFor : Transfer → Given → RetSubmit
-returnFor u given = record { seqnum = u .seqnum; status = given .status; actual = given .actual; start = u .start; packets = u .packets }
+returnFor u given =
+    record {
+      seqnum = u .seqnum;
+      status = statusSent u (given .status) (given .actual);
+      actual = given .actual;
+      start = u .start;
+      packets = u .packets;
+    }
 
 -- One URB more was returned.
 abbrev pub returnedLink : Link → Link
@@ -64,12 +72,13 @@ refusalPlan k n look given number =
 
 abbrev pub returnPlan : Link → ℕ → Look → Given → CompletionPlan
 returnPlan k n look given =
+    let ret = returnFor (look .transfer) given in
     record {
       link = returnedLink k;
       change = removes n (look .place);
-      answer = Return (wireLength (look .transfer .direction) (given .actual));
+      answer = Return (wireLength (look .transfer .direction) (given .actual)) (ret .status);
       good = true;
-      ret = returnFor (look .transfer) given;
+      ret = ret;
     }
 
 unfoldable pub completionPlan : Link → ℕ → Look → Given → (payload header : ℕ) → CompletionPlan

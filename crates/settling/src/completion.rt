@@ -13,6 +13,7 @@ use transmit::wire_length;
 use verdicts::verdict::Admission;
 use verdicts::verdict::Completing;
 use verdicts::verdict::completion_refusal;
+use verdicts::verdict::status_sent;
 ghost use mathlib.Core.Path.{_≡_};
 ghost use Rattle.settling.specs.Settling.{judgedBy, returnFor, returnedLink, completionPlan};
 
@@ -48,13 +49,14 @@ fn judged_by(phase: u8, look: Look, given: Given, payload: usize, header: usize)
     }
 }
 
-// The reply to a URB.
+// The reply to a URB, with the status sent.
 fn reply_to(u: Transfer, given: Given) -> RetSubmit
     ensures { λ r. ⌜ r ≡ returnFor u given ⌝ }
 {
+    let sent = status_sent(u, given.status, given.actual);
     RetSubmit {
         seqnum: u.seqnum,
-        status: given.status,
+        status: sent,
         actual: given.actual,
         start: u.start,
         packets: u.packets,
@@ -112,7 +114,7 @@ pub fn plan_completion(
             CompletionPlan {
                 link: next,
                 change: change,
-                answer: Completion::Return(n),
+                answer: Completion::Return(n, ret.status),
                 good: true,
                 ret: ret,
             }

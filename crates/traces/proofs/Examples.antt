@@ -23,7 +23,7 @@ pub traces :
     ++ dataTrace (0x0f ∷ 0xa0 ∷ [])
     ++ removedTrace (some 7)
     ++ removedTrace none
-    ++ headerTrace (done 112) (0 ∷ 3 ∷ [])
+    ++ headerTrace (done (record { wire = 112; status = 0 })) (0 ∷ 3 ∷ [])
     ++ headerTrace (refused 3) (0 ∷ 3 ∷ [])
     ≡ ascii "feed 48 0 -\nrecord 7 3333 1 2 512 64 4294967295 0 4 8006000100001200\ndata 0fa0\nremoved 7\nremoved -\nheader 112 0003\nheader 0 -\n"
 unfolding Digits.numeral Digits.digits

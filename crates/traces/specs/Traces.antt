@@ -6,7 +6,7 @@ use lib.ListN.{take}
 use Rattle.wire.specs.Codes.{HEADER-LEN}
 use Rattle.messages.specs.declared.message.Transfer.{Transfer}
 use Rattle.pending.specs.declared.urb.Urb.{Urb}
-use Rattle.model.specs.Answers.{Outcome, refused, done}
+use Rattle.model.specs.Answers.{Outcome, refused, done, Returned}
 use Rattle.numerals.specs.Digits.{ascii, decimal, hexOf}
 use Rattle.numerals.specs.Texts.{WORD-LEN, FIELD-LEN, line}
 
@@ -49,6 +49,6 @@ removedTrace (some ticket) = line "removed" (decimal ticket ∷ [])
 removedTrace none = line "removed" (ascii "-" ∷ [])
 
 -- Of a completion: the length on the wire and the header of the reply, or 0 and none.
-abbrev pub headerTrace : Outcome ℕ → List ℕ → List ℕ
-headerTrace (done wire) header = line "header" (decimal wire ∷ hexField (take HEADER-LEN header) ∷ [])
+abbrev pub headerTrace : Outcome Returned → List ℕ → List ℕ
+headerTrace (done r) header = line "header" (decimal (r .wire) ∷ hexField (take HEADER-LEN header) ∷ [])
 headerTrace (refused number) header = line "header" (decimal 0 ∷ hexField [] ∷ [])

@@ -100,7 +100,7 @@ pub fn trace_header(answer: Completion, header: &[u8], out: &mut [u8]) -> usize
     ensures { λ n. ⌜ Wrote (headerTrace (completionOf answer) (now (header .entry))) (now (out .entry)) (now (out .exit)) n ⌝ }
 {
     match answer {
-        Completion::Return(wire) => {
+        Completion::Return(wire, _) => {
             let w = begun(b"header");
             let t = with_number(w, wire);
             if header.len() < HEADER_LEN {

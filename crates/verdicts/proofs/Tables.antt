@@ -1,6 +1,6 @@
 -- Each table of tests matches its table of conditions: an answer is given exactly when its condition holds and none
 -- before it.
-use Prim.Native.Nat.{ℕ, suc, _<_}
+use Prim.Native.Nat.{ℕ, suc, _%_, _<_}
 use mathlib.Core.Path.{_≡_, refl}
 use mathlib.Core.Logic.{_↔_}
 use mathlib.Core.List.{List, [], _∷_, _++_}
@@ -15,7 +15,7 @@ use Rattle.limits.specs.Limits
 use Rattle.ground.specs.Tests.{Test, test}
 use Rattle.ground.specs.Rows.{Row, row}
 use Rattle.verdicts.specs.Verdicts.{fault, feedTests, feedRows, requestTests, requestRows, transferTests, transferRows, headerTests, headerRows}
-use Rattle.verdicts.specs.Verdicts.{submitTests, submitRows, completionTests, completionRows}
+use Rattle.verdicts.specs.Verdicts.{submitTests, submitRows, completionTests, completionRows, nonIsochronous, NonIsochronous, shortRead, ShortRead}
 use Rattle.verdicts.specs.declared.verdict.Completing.{Completing}
 use Rattle.verdicts.specs.declared.verdict.Fault.{Fault}
 use Rattle.ground.proofs.Match.{Match, guarded-match}
@@ -110,3 +110,15 @@ completion-match c Closed Missing Of h m o = (
     ),
   ),
 )
+
+non-isochronous-iff : (packets : ℕ) → (nonIsochronous packets ≡ true) ↔ NonIsochronous packets
+non-isochronous-iff packets = or-iff (eqb-iff packets 0) (eqb-iff packets Limits.NO-PACKETS)
+
+pub short-read-iff : (u : Transfer) (given actual : ℕ) → (shortRead u given actual ≡ true) ↔ ShortRead u given actual
+short-read-iff u given actual =
+    let kind = and-iff (eqb-iff (u .direction) Codes.DIR-IN) (non-isochronous-iff (u .packets)) in
+    let asked = and-iff kind (eqb-iff (u .flags % 2) Codes.URB-SHORT-NOT-OK) in
+    iff-trans (and-iff (and-iff asked (eqb-iff given 0)) (leb-iff (suc actual) (u .length))) (
+      (λ h. (h .0 .0 .0 .0, h .0 .0 .0 .1, h .0 .0 .1, h .0 .1, h .1)),
+      λ h. ((((h .0, h .1), h .2), h .3), h .4),
+    )

@@ -1,6 +1,6 @@
 -- The numbers of PROTOCOL.md, 5 and 6: each act's ordered table, once as tests that are computed and once as the conditions that they
 -- stand for.
-use Prim.Native.Nat.{ℕ, _<_, _≤_}
+use Prim.Native.Nat.{ℕ, _%_, _<_, _≤_}
 use mathlib.Core.Path.{_≡_}
 use mathlib.Core.Bool.{Bool, true, not, cond, _&&_, _||_}
 use mathlib.Core.List.{List, [], _∷_, _++_}
@@ -47,6 +47,13 @@ acceptanceOf (some st) = Answered st
 abbrev pub Not : ℕ → ℕ → Type 0
 Not a b = a ≡ b → ⊥
 
+-- By number_of_packets a transfer isn't isochronous.
+abbrev pub nonIsochronous : ℕ → Bool
+nonIsochronous packets = eqb packets 0 || eqb packets Limits.NO-PACKETS
+
+abbrev pub NonIsochronous : ℕ → Type 0
+NonIsochronous packets = (packets ≡ 0) ⊎ (packets ≡ Limits.NO-PACKETS)
+
 -- ## Feed: before a byte is looked at
 
 -- A session that is closed, and the sizes of the lent buffers.
@@ -83,7 +90,7 @@ abbrev pub transferTests : Transfer → List (Test Fault)
 transferTests t =
     test (fault Limits.BAD-DIRECTION) (ltb Codes.DIR-IN (t .direction))
     ∷ test (fault Limits.BAD-LENGTH) (ltb Limits.MAX-TRANSFER (t .length))
-    ∷ test (fault Limits.BAD-PACKETS) (not (eqb (t .packets) 0 || eqb (t .packets) Limits.NO-PACKETS))
+    ∷ test (fault Limits.BAD-PACKETS) (not (nonIsochronous (t .packets)))
     ∷ []
 
 abbrev pub transferRows : Transfer → List (Row Fault)
@@ -150,3 +157,26 @@ completionRows c closed missing Of =
     ∷ row Limits.ACTUAL-TOO-LONG (Of (λ length direction. length < c .actual))
     ∷ row Limits.SHORT-DATA (Of (λ length direction. (direction ≡ Codes.DIR-IN) × (c .payload < c .actual)))
     ∷ []
+
+-- ## Complete: the status sent
+
+-- A read that came short, of a client that doesn't take it as good: a transfer's, with the status and the actual length given.
+abbrev pub shortRead : Transfer → (given actual : ℕ) → Bool
+shortRead u given actual =
+    eqb (u .direction) Codes.DIR-IN
+    && nonIsochronous (u .packets)
+    && eqb (u .flags % 2) Codes.URB-SHORT-NOT-OK
+    && eqb given 0
+    && ltb actual (u .length)
+
+abbrev pub ShortRead : Transfer → (given actual : ℕ) → Type 0
+ShortRead u given actual =
+    (u .direction ≡ Codes.DIR-IN)
+    × NonIsochronous (u .packets)
+    × (u .flags % 2 ≡ Codes.URB-SHORT-NOT-OK)
+    × (given ≡ 0)
+    × (actual < u .length)
+
+-- "is now returned with status -121": the one status of the reply's header and of the answer.
+abbrev pub statusSent : Transfer → (given actual : ℕ) → ℕ
+statusSent u given actual = cond (shortRead u given actual) (minus Codes.EREMOTEIO) given

@@ -29,19 +29,20 @@ use wire::codes::DIR_IN;
 use wire::codes::HEADER_LEN;
 use wire::codes::OP_REQ_DEVLIST;
 use wire::codes::OP_REQ_IMPORT;
+use wire::codes::URB_SHORT_NOT_OK;
 use wire::codes::VERSION;
 use wire::status::MINUS_EINVAL;
 use wire::status::MINUS_ENODEV;
 use wire::status::MINUS_ENOMEM;
+use wire::status::MINUS_EREMOTEIO;
 use wire::status::is_positive;
 ghost use mathlib.Core.Path.{_≡_};
-ghost use mathlib.Core.Bool.{_&&_, _||_};
+ghost use mathlib.Core.Bool.{_&&_};
 ghost use lib.Dec.{eqb, ltb};
 ghost use Rattle.wire.specs.Codes;
-ghost use Rattle.limits.specs.Limits;
 ghost use Rattle.ground.specs.Tests.{first};
 ghost use Rattle.verdicts.specs.Verdicts.{admissionOf, readingOf, acceptanceOf, fault, feedTests, requestTests, transferTests, headerTests, submitTests};
-ghost use Rattle.verdicts.specs.Verdicts.{completionTests};
+ghost use Rattle.verdicts.specs.Verdicts.{nonIsochronous, completionTests, shortRead, statusSent};
 
 // An act is admitted, or refused by number.
 pub enum Admission {
@@ -105,9 +106,9 @@ pub fn request_fault(r: Request) -> Reading
     faulty(BAD_CODE)
 }
 
-// number_of_packets of a transfer that isn't isochronous.
-fn good_packets(packets: u32) -> bool
-    ensures { λ r. ⌜ r ≡ (eqb packets 0 || eqb packets Limits.NO-PACKETS) ⌝ }
+// By number_of_packets a transfer isn't isochronous.
+fn non_isochronous(packets: u32) -> bool
+    ensures { λ r. ⌜ r ≡ nonIsochronous packets ⌝ }
 {
     if packets == 0 {
         return true;
@@ -125,7 +126,7 @@ pub fn transfer_fault(t: Transfer) -> Reading
     if MAX_TRANSFER < t.length {
         return faulty(BAD_LENGTH);
     }
-    if !good_packets(t.packets) {
+    if !non_isochronous(t.packets) {
         return faulty(BAD_PACKETS);
     }
     Reading::Sound
@@ -215,4 +216,33 @@ pub fn completion_refusal(c: Completing) -> Admission
         return Admission::Refused(SHORT_DATA);
     }
     Admission::Admitted
+}
+
+// A read that came short, of a client that doesn't take it as good; status and actual length as given.
+fn short_read(u: Transfer, status: u32, actual: u32) -> bool
+    ensures { λ r. ⌜ r ≡ shortRead u status actual ⌝ }
+{
+    if u.direction != DIR_IN {
+        return false;
+    }
+    if !non_isochronous(u.packets) {
+        return false;
+    }
+    if u.flags % 2 != URB_SHORT_NOT_OK {
+        return false;
+    }
+    if status != 0 {
+        return false;
+    }
+    actual < u.length
+}
+
+// The status that a completion is returned with, by its transfer and what was given.
+pub fn status_sent(u: Transfer, status: u32, actual: u32) -> u32
+    ensures { λ r. ⌜ r ≡ statusSent u status actual ⌝ }
+{
+    if short_read(u, status, actual) {
+        return MINUS_EREMOTEIO;
+    }
+    status
 }

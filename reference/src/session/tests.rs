@@ -88,10 +88,12 @@ impl Deck {
         }
     }
 
+    /// Completes a ticket, and answers the length on the wire.
     fn complete(&mut self, ticket: u64, status: i32, length: u32) -> Result<usize, Refusal> {
         let data = [0; tape::DEVICE_DATA_SIZE];
-        self.session
-            .complete(ticket, status, length, &data, &mut self.header)
+        let header = &mut self.header;
+        let returned = self.session.complete(ticket, status, length, &data, header);
+        returned.map(|returned| returned.length)
     }
 
     fn numbers(&self) -> [u64; 5] {
@@ -104,6 +106,10 @@ impl Deck {
             numbers.dropped,
         ]
     }
+}
+
+fn good(length: usize) -> Result<Returned, Refusal> {
+    Ok(Returned { length, status: 0 })
 }
 
 fn intr_in(seqnum: u32) -> CmdSubmit {
@@ -269,13 +275,14 @@ mod known_exchanges {
 
         let mut header = [0; HEADER_SIZE];
         let session = &mut deck.session;
-        let length = session.complete(2, 0, 64, &[], &mut header).unwrap();
-        assert_eq!(sent(&header, &[], length), bytes(capture::RET_INTR_OUT));
+        let out = session.complete(2, 0, 64, &[], &mut header).unwrap();
+        let whole = sent(&header, &[], out.length);
+        assert_eq!(whole, bytes(capture::RET_INTR_OUT));
 
         let data = bytes(capture::RET_INTR_IN_DATA);
-        let length = session.complete(1, 0, 64, &data, &mut header).unwrap();
+        let read = session.complete(1, 0, 64, &data, &mut header).unwrap();
         let whole = [bytes(capture::RET_INTR_IN), data.clone()].concat();
-        assert_eq!(sent(&header, &data, length), whole);
+        assert_eq!(sent(&header, &data, read.length), whole);
     }
 }
 
@@ -373,9 +380,10 @@ mod refusals {
         let session = &mut deck.session;
         let short = session.complete(1, 0, 64, &[0; 63], &mut header);
         assert_eq!(short, Err(Refusal::ShortData));
-        assert_eq!(session.complete(2, 0, 64, &[], &mut header), Ok(48));
+        let out = session.complete(2, 0, 64, &[], &mut header);
+        assert_eq!(out, good(48));
         let just = session.complete(1, 0, 64, &[0; 64], &mut header);
-        assert_eq!(just, Ok(112));
+        assert_eq!(just, good(112));
     }
 
     #[test]
@@ -657,12 +665,80 @@ mod tickets {
         }));
         let mut header = [UNTOUCHED; 49];
         let result = deck.session.complete(1, -32, 3, &[0; 3], &mut header);
-        assert_eq!(result, Ok(51));
+        let failed = Returned {
+            length: 51,
+            status: -32,
+        };
+        assert_eq!(result, Ok(failed));
         let mut words = bytes(
             "00000003 00000064 00000000 00000000 00000000 ffffffe0 00000003 01020304 ffffffff",
         );
         words.resize(48, 0);
         assert_eq!(header[..48], words);
         assert_eq!(header[48], UNTOUCHED);
+    }
+}
+
+mod short_reads {
+    use super::*;
+
+    /// A transfer of these flags, completed with a status and an actual length: the status that is answered and sent.
+    fn sent(submit: &CmdSubmit, status: i32, actual_length: u32) -> i32 {
+        let mut deck = Deck::attached();
+        let message = [&submit.header()[..], &vec![0; submit.data_size()]].concat();
+        assert!(matches!(deck.feed(&message).event, Event::Accepted(_)));
+        let session = &mut deck.session;
+        let returned = session.complete(1, status, actual_length, &[7; 64], &mut deck.header);
+        let Returned { length, status } = returned.unwrap();
+        assert_eq!(deck.header[20..24], status.to_be_bytes());
+        assert_eq!(deck.header[24..28], actual_length.to_be_bytes());
+        let data = match submit.direction {
+            USBIP_DIR_IN => actual_length as usize,
+            _ => 0,
+        };
+        assert_eq!(length, HEADER_SIZE + data);
+        assert_eq!(deck.numbers(), [1, 0, 1, 0, 0]);
+        status
+    }
+
+    fn flagged(transfer_flags: u32, change: impl Fn(&mut CmdSubmit)) -> CmdSubmit {
+        let mut submit = with(change);
+        submit.transfer_flags = transfer_flags;
+        submit
+    }
+
+    #[test]
+    fn a_short_read_with_the_flag_is_sent_as_121() {
+        for packets in [0, NOT_ISOCHRONOUS] {
+            for flags in [URB_SHORT_NOT_OK, 0x201, u32::MAX] {
+                let submit = flagged(flags, |submit| submit.number_of_packets = packets);
+                for (actual_length, status) in [(0, -121), (1, -121), (63, -121), (64, 0)] {
+                    assert_eq!(sent(&submit, 0, actual_length), status);
+                }
+            }
+        }
+    }
+
+    #[test]
+    fn any_other_return_has_the_status_given() {
+        for flags in [0, 2, 0x200, !URB_SHORT_NOT_OK] {
+            assert_eq!(sent(&flagged(flags, |_| ()), 0, 63), 0);
+        }
+        let flag = URB_SHORT_NOT_OK;
+        for (status, actual_length) in [(-5, 10), (-1, 0), (i32::MIN, 63), (-121, 64)] {
+            assert_eq!(sent(&flagged(flag, |_| ()), status, actual_length), status);
+        }
+        let out = flagged(flag, |submit| submit.direction = USBIP_DIR_OUT);
+        assert_eq!(sent(&out, 0, 63), 0);
+        let empty = flagged(flag, |submit| submit.transfer_buffer_length = 0);
+        assert_eq!(sent(&empty, 0, 0), 0);
+    }
+
+    #[test]
+    fn a_refusal_looks_at_the_status_given() {
+        let mut deck = Deck::attached();
+        deck.accept(&flagged(URB_SHORT_NOT_OK, |_| ()));
+        assert_eq!(deck.complete(1, 1, 63), Err(Refusal::PositiveStatus));
+        assert_eq!(deck.numbers(), [1, 1, 0, 0, 0]);
     }
 }

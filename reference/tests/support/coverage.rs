@@ -4,7 +4,7 @@ use reference::generate::{BadEnd, BAD_ENDS};
 use reference::tape::{Item, Reader};
 use std::collections::BTreeMap;
 
-/// Every kind of line that a tape can reach, with every number and status, and two limits.
+/// Every kind of line that a tape can reach, with every number and status, two limits, and what URB_SHORT_NOT_OK can meet.
 const LINES: &[&str] = &[
     "answer -12",
     "answer -19",
@@ -39,6 +39,18 @@ const LINES: &[&str] = &[
     "removed -",
     "removed",
     "return",
+    "short read with packets 0: -121",
+    "short read with packets 4294967295: -121",
+    "short read of 0 bytes: -121",
+    "short read, one byte missing: -121",
+    "short read, flag 1 alone: -121",
+    "short read, other flags too: -121",
+    "short read that failed: as given",
+    "short read, no flags: 0",
+    "short read, all flags but 1: 0",
+    "whole read with flag 1: 0",
+    "read of length 0 with flag 1: 0",
+    "short write with flag 1: 0",
     "submit",
     "unlink -104",
     "unlink 0",
@@ -49,10 +61,17 @@ pub struct Coverage(BTreeMap<String, u64>);
 
 impl Coverage {
     pub fn add(&mut self, tape: &[u8], trace: &str) {
+        let mut urbs = BTreeMap::new();
         for line in trace.lines() {
             self.count(kind(line));
             for limit in limits(line) {
                 self.count(limit);
+            }
+            if let Some((ticket, urb)) = record(line) {
+                urbs.insert(ticket, urb);
+            }
+            for kind in return_kinds(line, &urbs) {
+                self.count(kind);
             }
         }
         if let Some(end) = bad_end(tape) {
@@ -108,6 +127,74 @@ fn limits(line: &str) -> Vec<String> {
         limits.push("record with length 16384".to_string());
     }
     limits
+}
+
+/// What decides about a short read.
+struct Urb {
+    direction: u32,
+    flags: u32,
+    length: u32,
+    packets: u32,
+}
+
+fn record(line: &str) -> Option<(&str, Urb)> {
+    let words: Vec<&str> = line.split(' ').collect();
+    let ["record", ticket, _, direction, _, flags, length, _, packets, ..] = words[..] else {
+        return None;
+    };
+    let [direction, flags, length, packets] =
+        [direction, flags, length, packets].map(|word| word.parse().expect("a number"));
+    let urb = Urb {
+        direction,
+        flags,
+        length,
+        packets,
+    };
+    Some((ticket, urb))
+}
+
+/// What a return tells of URB_SHORT_NOT_OK, and its status.
+fn return_kinds(line: &str, urbs: &BTreeMap<&str, Urb>) -> Vec<String> {
+    let words: Vec<&str> = line.split(' ').collect();
+    let ["return", ticket, status, actual] = words[..] else {
+        return Vec::new();
+    };
+    let urb = &urbs[ticket];
+    let actual: u32 = actual.parse().expect("a length");
+    let (is_read, flag) = (urb.direction == 1, urb.flags & 1 != 0);
+    match (is_read, flag, actual < urb.length, status) {
+        (true, true, true, "0" | "-121") => short_read_kinds(urb, actual, status),
+        (true, true, true, _) => vec!["short read that failed: as given".to_string()],
+        (true, true, false, "0") if urb.length == 0 => {
+            vec!["read of length 0 with flag 1: 0".to_string()]
+        }
+        (true, true, false, "0") => vec!["whole read with flag 1: 0".to_string()],
+        (true, false, true, "0") if urb.flags == 0 => vec!["short read, no flags: 0".to_string()],
+        (true, false, true, "0") if urb.flags == 0xffff_fffe => {
+            vec!["short read, all flags but 1: 0".to_string()]
+        }
+        (false, true, true, "0") => vec!["short write with flag 1: 0".to_string()],
+        (_, _, _, "-121") => vec!["-121 without a cause".to_string()],
+        _ => Vec::new(),
+    }
+}
+
+fn short_read_kinds(urb: &Urb, actual: u32, status: &str) -> Vec<String> {
+    let flags = match urb.flags {
+        1 => "flag 1 alone",
+        _ => "other flags too",
+    };
+    let mut kinds = vec![
+        format!("short read with packets {}: {status}", urb.packets),
+        format!("short read, {flags}: {status}"),
+    ];
+    if actual == 0 {
+        kinds.push(format!("short read of 0 bytes: {status}"));
+    }
+    if actual + 1 == urb.length {
+        kinds.push(format!("short read, one byte missing: {status}"));
+    }
+    kinds
 }
 
 fn bad_end(tape: &[u8]) -> Option<BadEnd> {

@@ -3,7 +3,9 @@
 use super::Author;
 use crate::session::MAX_PENDING;
 use crate::tape::{Completion, DEVID};
-use crate::wire::{CmdSubmit, CmdUnlink, NOT_ISOCHRONOUS, USBIP_DIR_IN, USBIP_DIR_OUT};
+use crate::wire::{
+    CmdSubmit, CmdUnlink, NOT_ISOCHRONOUS, URB_SHORT_NOT_OK, USBIP_DIR_IN, USBIP_DIR_OUT,
+};
 
 const SHORT_LENGTHS: [u32; 8] = [0, 1, 8, 63, 64, 65, 96, 200];
 const LONG_LENGTHS: [u32; 2] = [16_383, 16_384];
@@ -25,7 +27,7 @@ impl Author {
             devid: DEVID,
             direction,
             ep: self.random.pick(&[0, 1, 2, 14, 15]),
-            transfer_flags: self.word(),
+            transfer_flags: self.flags(),
             transfer_buffer_length: self.length(direction),
             start_frame: self.word(),
             number_of_packets: self.random.pick(&[0, NOT_ISOCHRONOUS]),
@@ -58,6 +60,13 @@ impl Author {
     fn word(&mut self) -> u32 {
         let any = self.random.next_u32();
         self.random.pick(&[0, 0, 0x200, 0xffff_ffff, any])
+    }
+
+    /// With URB_SHORT_NOT_OK, alone or not, with all but it, and any.
+    fn flags(&mut self) -> u32 {
+        let any = self.word();
+        let (flag, others) = (URB_SHORT_NOT_OK, !URB_SHORT_NOT_OK);
+        self.random.pick(&[any, any, flag, flag | 0x200, others])
     }
 
     fn length(&mut self, direction: u32) -> u32 {

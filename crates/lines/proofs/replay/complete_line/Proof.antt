@@ -2,8 +2,8 @@ use borrow.Author.Needs.{needs}
 use Rattle.lines.proofs.replay.complete_line.Statement.{statement}
 use Rattle.lines.proofs.replay.complete_line.Tie as tie
 
-enum-told : tie.Need-enum-told
-enum-told c = search needs
+enum-known-answer : tie.Need-enum-known-answer
+enum-known-answer c = search needs
 
 return-line-requires : tie.Need-return-line-requires
 return-line-requires c κs = search needs
@@ -11,8 +11,8 @@ return-line-requires c κs = search needs
 put-requires : tie.Need-put-requires
 put-requires c κs = search needs
 
-enum-known-answer : tie.Need-enum-known-answer
-enum-known-answer c = search needs
+enum-known-answer-2 : tie.Need-enum-known-answer-2
+enum-known-answer-2 c = search needs
 
 slice-aggregate-number-line : tie.Need-slice-aggregate-number-line
 slice-aggregate-number-line c = search needs
@@ -33,7 +33,7 @@ returns : tie.Need-returns
 returns c =
     let k = c .before .before in
     let t = k .before .before in
-    rw (t .before .enum-told .given .1) (rw (t .return-line .ensures .text) at (k .put .ensures))
+    rw (t .before .before .answer .given .1) (rw (t .return-line .ensures .text) at (k .put .ensures))
 
 same-length-2 : tie.Need-same-length-2
 same-length-2 c = search needs
@@ -42,16 +42,16 @@ returns-2 : tie.Need-returns-2
 returns-2 c =
     let k = c .before .before in
     let t = k .before .before in
-    rw (t .before .before .before .answer .given .1) (rw (t .number-line .ensures .text) at (k .put2 .ensures))
+    rw (t .before .before .before .answer2 .given .1) (rw (t .number-line .ensures .text) at (k .put2 .ensures))
 
 pub complete-line-spec : {M : Type 1} → statement M
 complete-line-spec =
     tie.close
     (tie.spec
-    enum-told
+    enum-known-answer
     return-line-requires
     put-requires
-    enum-known-answer
+    enum-known-answer-2
     slice-aggregate-number-line
     cast-number-line
     number-line-requires
