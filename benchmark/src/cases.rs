@@ -13,6 +13,9 @@ pub struct Case {
 
 const NONE: &[u32] = &[0];
 const UP_TO_31: &[u32] = &[0, 1, 31];
+/// With the one that is completed 1, 16 and 32.
+const OTHERS: &[u32] = &[0, 15, 31];
+const UP_TO_32: &[u32] = &[1, 16, 32];
 
 /// A piece that is the whole message.
 const WHOLE: usize = usize::MAX;
@@ -30,8 +33,9 @@ pub fn cases() -> Vec<Case> {
         case("feed of OUT of 16,384 whole (answered -22)", NONE, feeds(&out, WHOLE)),
         case("OUT of 64, fed and completed", NONE, completed(submit_out, 64)),
         case("OUT of 16,384, fed and completed", NONE, completed(submit_out, MAX_TRANSFER)),
-        case("IN of 64, fed and completed", UP_TO_31, completed(submit_in, 64)),
+        case("IN of 64, fed and completed", OTHERS, completed(submit_in, 64)),
         case("IN of 16,384, fed and completed", NONE, completed(submit_in, MAX_TRANSFER)),
+        case("completion of none that is pending", UP_TO_32, Rounds::Missed),
         case("IN of 64, fed and unlinked (two feeds)", UP_TO_31, unlinked(64)),
         case("sending step, 1,460 of 16,432 bytes", NONE, sent(1_460)),
     ]

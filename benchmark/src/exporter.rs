@@ -15,6 +15,9 @@ pub trait Exporter {
     /// The length on the wire.
     fn complete(&mut self, ticket: u64, actual: u32, data: &[u8], header: &mut [u8]) -> u64;
 
+    /// Completes a ticket that isn't pending: the refusal's number.
+    fn refuses(&mut self, ticket: u64, header: &mut [u8]) -> u64;
+
     fn part<'a>(header: &'a [u8], data: &'a [u8], n: usize, sent: usize, most: usize) -> &'a [u8];
 }
 
@@ -49,6 +52,12 @@ impl Exporter for Session {
         returned.expect("the ticket is pending").length
     }
 
+    fn refuses(&mut self, ticket: u64, header: &mut [u8]) -> u64 {
+        let answer = self.complete(ticket, 0, 0, &[], header);
+        let refusal = answer.expect_err("the ticket isn't pending");
+        u64::from(refusal.number())
+    }
+
     fn part<'a>(header: &'a [u8], data: &'a [u8], n: usize, sent: usize, most: usize) -> &'a [u8] {
         rimemaple::part(header, data, n, sent, most)
     }
@@ -77,6 +86,12 @@ impl Exporter for PlainSession {
     fn complete(&mut self, ticket: u64, actual: u32, data: &[u8], header: &mut [u8]) -> u64 {
         let returned = self.complete(ticket, 0, actual, data, header);
         returned.expect("the ticket is pending").length as u64
+    }
+
+    fn refuses(&mut self, ticket: u64, header: &mut [u8]) -> u64 {
+        let answer = self.complete(ticket, 0, 0, &[], header);
+        let refusal = answer.expect_err("the ticket isn't pending");
+        u64::from(refusal.number())
     }
 
     fn part<'a>(header: &'a [u8], data: &'a [u8], n: usize, sent: usize, most: usize) -> &'a [u8] {

@@ -11,6 +11,8 @@ pub enum Rounds {
     Pieces { message: Vec<u8>, size: usize },
     /// A submit and its completion.
     Exchanges { submit: Vec<u8>, data: Vec<u8> },
+    /// A completion of a ticket above those that are pending: refused, so nothing changes.
+    Missed,
     /// A submit and its unlink.
     Unlinks { submit: Vec<u8>, unlink: Vec<u8> },
     /// A sending step.
@@ -40,6 +42,7 @@ pub fn run<E: Exporter>(rounds: &Rounds, pending: u32, count: u64, b: &mut Buffe
     match rounds {
         Rounds::Pieces { message, size } => pieces(session, count, message, *size, b),
         Rounds::Exchanges { submit, data } => exchanges(session, count, submit, data, b),
+        Rounds::Missed => missed(session, count, u64::from(pending) + 1, b),
         Rounds::Unlinks { submit, unlink } => unlinks(session, count, submit, unlink, b),
         Rounds::Parts { data, most } => parts::<E>(count, data, *most, b),
     }
@@ -88,6 +91,11 @@ fn exchanges(
         sum += session.complete(ticket, actual, black_box(data), &mut b.header);
     }
     sum
+}
+
+fn missed(mut session: impl Exporter, count: u64, ticket: u64, b: &mut Buffers) -> u64 {
+    let refusals = (0..count).map(|_| session.refuses(black_box(ticket), &mut b.header));
+    refusals.sum()
 }
 
 fn unlinks(

@@ -271,7 +271,7 @@ module _ (t : Table) (k : Link) (l : Pending) (h : Header) (consumed : ℕ) (a :
       (says t k l (headed h 0) (unlink (h .transfer .seqnum) (minus Codes.ECONNRESET) (some (look .ticket)))
       (resting Limits.ATTACHED (k .devid) counts) (removes (l .count) (look .place)) _ consumed _ noSetup _
       refl refl (remove-drops l (l .count) (look .place) i (c′ .0)) refl
-      (view-attached t (k .devid) counts list even ∙ rw (remove-view l (look .place) w seqnumOf (unlinkSeqnum h) (c′ .0) e, a .1))
+      (view-attached t (k .devid) counts list even ∙ rw (remove-view l (look .place) w (placeBy seqnumOf (unlinkSeqnum h) (listOf l)) e i (c′ .0), a .1))
       (sym (a .1))
       (remove-clean l (look .place)))
 

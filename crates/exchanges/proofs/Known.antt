@@ -7,6 +7,7 @@ use Rattle.records.specs.Records.{deviceRecord}
 use Rattle.importing.specs.Imports.{importReply, importRefusal}
 use Rattle.listing.specs.Lists.{listedDevice, listReply}
 use Rattle.ground.specs.Tests.{decide, pick}
+use Rattle.halving.specs.Halving.{looked, binaryDigits, halved}
 use Rattle.model.specs.Machine.{feed}
 use Rattle.model.specs.Judging.{grow, submitted, submitting, wholeHeader, message, requested, lookedUp, request, judge}
 use Rattle.model.specs.Acts.{replyTo, put, writeReply, feedOf, completeOf, openOf}
@@ -15,5 +16,5 @@ use Rattle.exchanges.specs.Exchanges.{Known}
 pub known : Known
 unfolding text goodDevice goodTable tapeTable deviceRecord listedDevice listReply importReply importRefusal
     decide pick feed grow submitted submitting wholeHeader message requested lookedUp request
-    judge replyTo put writeReply feedOf completeOf openOf
+    judge replyTo put writeReply feedOf looked binaryDigits halved completeOf openOf
 known = (refl, refl)

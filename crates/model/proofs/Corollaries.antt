@@ -21,6 +21,8 @@ use Rattle.transmit.specs.Part.{partOf, Sends}
 use Rattle.transmit.proofs.Whole.{sent-whole}
 use Rattle.pending.specs.Pending.{ticketOf, tickets}
 use Rattle.pending.specs.declared.urb.Urb.{Urb}
+use Rattle.pending.proofs.Halving.{ticket-settled, ticket-there, ticket-nowhere}
+use Rattle.ground.specs.Lists.{Rising}
 use Rattle.limits.specs.Limits
 use Rattle.ground.specs.Rows.{Row, Gives, Clear}
 use Rattle.ground.specs.Tests.{first, by-first, by-test}
@@ -36,11 +38,11 @@ use Rattle.model.specs.Cut.{Feeding}
 use Rattle.model.specs.Claims.{entryOf, nextOf, header, messageLen, feedRowsBy, completionRowsBy, closeRowsBy, headerRowsBy, submitRowsBy, RightRequest}
 use Rattle.model.specs.Claims.{RightMessage, byPhase, RightFeed, headerFor, RightComplete, Right, Counted, Agrees, Grown, Moves, consumedFor, Stays}
 use Rattle.model.specs.Claims.{AttachesBy, Attaches, Holds}
-use Rattle.model.specs.Corollaries.{sessionAfter, bookAfter, sessionFrom, bookFrom, OpenGives, OpenIff, ByTable, RefusedIff, RefusedLate, LateTicket}
-use Rattle.model.specs.Corollaries.{Ended, EndedTicket, CancelledTicket, Sent, CompletionSent, AttachedTo, Ready, Verdict, AcceptIff, AnsweredStays}
-use Rattle.model.specs.Corollaries.{requestSize, messageSize, UpTo, Reaches, Consumption, EmptyPiece}
+use Rattle.model.specs.Corollaries.{sessionAfter, bookAfter, sessionFrom, bookFrom, OpenGives, OpenIff, ByTable, RefusedIff, TicketSought, TicketFound}
+use Rattle.model.specs.Corollaries.{RefusedLate, LateTicket, Ended, EndedTicket, CancelledTicket, Sent, CompletionSent, AttachedTo, Ready, Verdict}
+use Rattle.model.specs.Corollaries.{AcceptIff, AnsweredStays, requestSize, messageSize, UpTo, Reaches, Consumption, EmptyPiece}
 use Rattle.ground.proofs.Cases.{differ, not-less}
-use Rattle.model.proofs.Facts.{grown-refl, grown-trans, ended-stays}
+use Rattle.model.proofs.Facts.{grown-refl, grown-trans, ended-stays, mem-to, mem-from}
 use Rattle.model.proofs.Tables.{feed-match}
 use Rattle.wire.proofs.Heads.{field-stays}
 use Rattle.model.proofs.Runs.{every-run}
@@ -120,6 +122,23 @@ refused-iff t cs =
       (let r = right-from t cs close .1 in
           table-iff (closeRowsBy b) (closeOf s .answer) (λ n h. r .refuses n h .0) (λ ts h. r .accepts ts h .0)),
     )
+
+-- ## Finding a ticket
+
+sought : (s : Sess) (b : Book) (k : ℕ) → Agrees s b → TicketSought s b k
+sought s b k a =
+    let r : Rising (tickets (s .pend)) = rw (a .pending) (a .rising) in
+    record {
+      settled = ticket-settled k (s .pend);
+      place = ticket-there k (s .pend) r;
+      nowhere = (
+        (λ e u m. ticket-nowhere k (s .pend) r .0 e u (rw (a .pending) (mem-from u (b .items) m))),
+        λ h. ticket-nowhere k (s .pend) r .1 (λ u m. h u (mem-to u (b .items) (rw (a .pending) at m))),
+      );
+    }
+
+pub ticket-found : TicketFound
+ticket-found t cs k = sought (sessionFrom t cs) (bookFrom t cs) k (right-from t cs close .0)
 
 -- ## A late ticket
 

@@ -9,9 +9,9 @@ use mathlib.Core.Option.{Option, none, some}
 use lib.ListN.{length, length-append}
 use lib.Dec.{eqb}
 use borrow.Author.Tests.{eqb-true, eq-eqb, ne-eqb}
-use Rattle.pending.specs.Pending.{ticketOf, tickets, findBy, without, withoutFirst}
+use Rattle.pending.specs.Pending.{ticketOf, tickets, findBy, without}
 use Rattle.ground.specs.Lists.{Above, Rising}
-use Rattle.pending.proofs.Finding.{find-none}
+use Rattle.pending.proofs.Finding.{find-some, find-none}
 use Rattle.pending.proofs.Without.{without-absent}
 use Rattle.ground.proofs.Cases.{not-some}
 use Rattle.model.specs.State.{End, returned, unlinked, dropped}
@@ -205,6 +205,13 @@ mem-found key us u m = at (findBy key (key u) us) refl
     at none h = absurd (find-none key (key u) us .0 h u m refl)
     at (some v) h = (v, h)
 
+-- and itself where the keys differ
+pub only-found : (key : Urb → ℕ) (us : List Urb) (u : Urb) → Distinct (map key us) → List·Memᴰ u us → findBy key (key u) us ≡ some u
+only-found key us u d m =
+    let w = mem-found key us u m in
+    let f = find-some key (key u) us (w .0) (w .1) in
+    w .1 ∙ ap some (distinct-one key us (w .0) u d (f .1) m (f .0))
+
 -- a key that none has, of fewer and of one more
 pub apart-without : (key : Urb → ℕ) (k t : ℕ) (us : List Urb) → Apart k (map key us) → Apart k (map key (without t us))
 apart-without key k t [] a = tt
@@ -278,21 +285,6 @@ tickets-distinct is h = above-distinct 0 (tickets (pendingOf is)) (above 0 is h)
 -- a key that none has takes none out
 absent : (t : ℕ) (us : List Urb) → Apart t (tickets us) → without t us ≡ us
 absent t us a = without-absent t us (λ u m e. apart-mem ticketOf t us u a m e)
-
--- where keys and tickets are distinct, the first that has a URB's key is the one that has its ticket
-pub one-only : (key : Urb → ℕ) (us : List Urb) (u : Urb) → Distinct (map key us) → Distinct (tickets us) → List·Memᴰ u us
-    → withoutFirst key (key u) us ≡ without (ticketOf u) us
-one-only key [] u d t m = absurd (List·Memᴰ·not-nil m)
-one-only key (v ∷ us) u d t m = ⊎-elim here (λ n. behind n (one-only key us u (d .1) (t .1) n)) (List·Memᴰ·cases-cons m)
-  where
-    here : u ≡ v → withoutFirst key (key u) (v ∷ us) ≡ without (ticketOf u) (v ∷ us)
-    here e = cc (eq-eqb (key v) (key u) (ap key (sym e)), eq-eqb (ticketOf v) (ticketOf u) (ap ticketOf (sym e)), absent (ticketOf v) us (t .0))
-
-    behind : List·Memᴰ u us → withoutFirst key (key u) us ≡ without (ticketOf u) us → withoutFirst key (key u) (v ∷ us) ≡ without (ticketOf u) (v ∷ us)
-    behind n r =
-        let k = ne-eqb (key v) (key u) (λ e. apart-mem key (key v) us u (d .0) n (sym e)) in
-        let q = ne-eqb (ticketOf v) (ticketOf u) (λ e. apart-mem ticketOf (ticketOf v) us u (t .0) n (sym e)) in
-        cc
 
 -- ## All pending items dropped
 

@@ -19,9 +19,10 @@ use Rattle.exports.specs.declared.device.Table.{Table}
 use Rattle.lookup.specs.Lookup.{FirstDevice, devidOf}
 use Rattle.lookup.proofs.First.{find-first}
 use Rattle.transmit.specs.Part.{wireLength}
-use Rattle.pending.specs.Pending.{ticketOf, seqnumOf, tickets, findBy}
+use Rattle.pending.specs.Pending.{ticketOf, seqnumOf, tickets, findBy, Place, placeBy}
 use Rattle.pending.specs.declared.urb.Urb.{Urb}
 use Rattle.pending.proofs.Finding.{find-some, find-none}
+use Rattle.pending.proofs.Halving.{ticket-placed}
 use Rattle.limits.specs.Limits
 use Rattle.ground.specs.Tests.{Test, first, by-first, pick, by-test}
 use Rattle.ground.specs.Rows.{Gives, Clear}
@@ -32,8 +33,8 @@ use Rattle.model.specs.State.{Sess, headerIn, returned, unlinked}
 use Rattle.model.specs.Answers.{Outcome, refused, done, Returned, Event, hungry, list, import, submit, answer, unlink, break, isHungry}
 use Rattle.model.specs.Judging.{grow, judge}
 use Rattle.model.specs.Acts.{settles, between, deviceOf, afterUnlink, after, importBytes, replyFor, replyTo, Buffers, put, feedBytes, feedTestsOf}
-use Rattle.model.specs.Acts.{refusedFeed, doneFeed, feedOf, Completion, theTransfer, completionTestsOf, Complete, refusedCompletion, completeOf, Close}
-use Rattle.model.specs.Acts.{closeOf, noTable, fresh, Open, openOf}
+use Rattle.model.specs.Acts.{refusedFeed, doneFeed, feedOf, Completion, theTransfer, namedPlace, named, completionTestsOf, Complete, refusedCompletion}
+use Rattle.model.specs.Acts.{completeOf, Close, closeOf, noTable, fresh, Open, openOf}
 use Rattle.model.specs.Book.{Call, feed, complete, close, Entry, fed, completed, closing, Item, Book, opened, withPart, took, mark, Effect, add, settle}
 use Rattle.model.specs.Book.{drop-all, shut, nothing, apply, removal, effectOf, keepEvent, keep, pendingOf, Pending}
 use Rattle.model.specs.Cut.{stepAll, outcomeReply, replied, written}
@@ -41,10 +42,10 @@ use Rattle.model.specs.Claims.{entryOf, nextOf, header, feedRowsBy, comp
 use Rattle.model.specs.Claims.{Replies, placeOf, dataIn, SentAs, headerFor, Right, Agrees, Grown, Moves, consumedFor, Progresses, AttachesBy}
 use Rattle.model.specs.Claims.{Attaches, Holds, EveryRun}
 use Rattle.ground.proofs.Cases.{differ, never-true}
-use Rattle.model.proofs.Facts.{sum, grown-refl, tickets-rise, mem-to, mem-from, pending-before}
-use Rattle.model.proofs.Tables.{feed-match, completion-match, sent-as}
+use Rattle.model.proofs.Facts.{sum, grown-refl, tickets-rise, mem-to, mem-from, only-found, pending-before}
+use Rattle.model.proofs.Tables.{feed-match, named-first, completion-match, sent-as}
 use Rattle.model.proofs.Steps.{messageIn, heading, bodied, header-in, place-in, room-in, short, sessionOf, grow-is, Fit, fit-part, Allowed, act}
-use Rattle.model.proofs.Steps.{phaseAfter, by-seqnum, step, act-is}
+use Rattle.model.proofs.Steps.{phaseAfter, settles-first, step, act-is}
 use Rattle.model.proofs.Judged.{Going, came, Judged, looked-up, judge-right}
 use Rattle.model.proofs.Cut.{lawful}
 use Rattle.model.proofs.Untouched.{untouched}
@@ -152,8 +153,9 @@ module _ (t : Table) (phase devid : ℕ) (b : Book) (f : Fit phase b) (o : b .cl
       let u = w .0 in
       let e : unlinkSeqnum (headerIn (messageIn (b .part))) ≡ seqnumOf u =
       ap unlinkSeqnum (header-in (b .part) (omega (arith, m .0))) ∙ unlink-seqnum (header (b .part)) ∙ sym (w .2) in
-      ap (λ n. settles seqnumOf n unlinked now) e ∙ by-seqnum phase b f u (mem-from u (b .items) (w .1)) t devid unlinked
-      ∙ ap (λ n. settles ticketOf n unlinked now) (w .3)
+      let h = only-found seqnumOf (pendingOf (b .items)) u (f .seqnums) (mem-from u (b .items) (w .1)) in
+      ap (λ n. settles (placeBy seqnumOf n (now .pend)) unlinked now) e ∙ settles-first t phase devid b seqnumOf (seqnumOf u) u unlinked f h
+      ∙ ap (λ n. act now (settle n unlinked)) (w .3)
 
   -- a message that goes on
   after-hungry : Going phase b → Leaves hungry
@@ -406,7 +408,11 @@ module _ (t : Table) (phase devid : ℕ) (b : Book) (f : Fit phase b) (g : Going
 
   module _ (c : Completion) where
     abbrev held : Option Urb
-    held = findBy ticketOf (c .ticket) (pendingOf (b .items))
+    held = named now′ c
+
+    -- which is the one that is pending under its ticket
+    held-first : held ≡ findBy ticketOf (c .ticket) (pendingOf (b .items))
+    held-first = named-first (b .items) (c .ticket) (f .counted)
 
     pub record CompleteHolds (r : Complete) : Type 0 where
       pub refuses : (n : ℕ) → r .answer ≡ refused n → Gives (completionRowsBy b c) n × (r .header ≡ c .header) × (r .next ≡ now′)
@@ -437,16 +443,22 @@ module _ (t : Table) (phase devid : ℕ) (b : Book) (f : Fit phase b) (g : Going
     -- a completion that isn't refused finds its URB
     complete-found : first tests ≡ none → (o : Option Urb) → held ≡ o → (u : Urb) × (held ≡ some u)
     complete-found h none e =
-        let missing = find-none ticketOf (c .ticket) (pendingOf (b .items)) .0 e in
+        let missing = find-none ticketOf (c .ticket) (pendingOf (b .items)) .0 (sym held-first ∙ e) in
         absurd (clear tests (completionRowsBy b c) match h .1 .1 .0 (λ u m k. missing u (mem-from u (b .items) m) k))
     complete-found h (some u) e = (u, e)
 
     complete-left : (u : Urb) (r : Returned) → held ≡ some u
-        → Left t phase devid b (completed (c .ticket) (done r)) (settles ticketOf (c .ticket) returned now′)
+        → Left t phase devid b (completed (c .ticket) (done r)) (settles (namedPlace now′ c) returned now′)
     complete-left u r e =
-        let s = step phase b (settle (c .ticket) returned) f (u, e) in
+        let h = sym held-first ∙ e in
+        let q = find-some ticketOf (c .ticket) (pendingOf (b .items)) u h in
+        let s = step phase b (settle (c .ticket) returned) f (u, h) in
         record {
-          session = act-is t phase devid b (settle (c .ticket) returned) f (u, e);
+          session =
+              ap (λ (p : Place). settles p returned now′) (ticket-placed (c .ticket) (pendingOf (b .items)) (tickets-rise (b .items) (f .counted)))
+              ∙ settles-first t phase devid b ticketOf (c .ticket) u returned f h
+              ∙ ap (λ n. act now′ (settle n returned)) (q .0)
+              ∙ act-is t phase devid b (settle (c .ticket) returned) f (u, h);
           fit = s .fit;
           going = settled-going (c .ticket);
           grown = s .grown;
@@ -467,7 +479,7 @@ module _ (t : Table) (phase devid : ℕ) (b : Book) (f : Fit phase b) (g : Going
         λ h.
         let w = complete-found h held refl in
         let u = w .0 in
-        let q = find-some ticketOf (c .ticket) (pendingOf (b .items)) u (w .1) in
+        let q = find-some ticketOf (c .ticket) (pendingOf (b .items)) u (sym held-first ∙ w .1) in
         record {
           refuses = λ n k. differ (cc);
           accepts =

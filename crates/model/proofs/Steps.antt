@@ -2,7 +2,7 @@
 use Prim.Native.Nat.{ℕ, suc, _+_, _-_, _≤_, _<_}
 use native.Mathlib.Omega.{arith}
 use mathlib.Core.Path.{_≡_, refl, sym, ap, _∙_}
-use mathlib.Core.List.{List, [], _∷_, _++_, map, List·Memᴰ}
+use mathlib.Core.List.{List, [], _∷_, _++_, map}
 use mathlib.Core.Bool.{Bool, true, false, cond}
 use mathlib.Core.Option.{some}
 use lib.Dec.{eqb, ltb}
@@ -12,19 +12,21 @@ use borrow.Author.Tests.{ltb-true, ltb-false, lt-ltb, le-ltb}
 use Rattle.wire.specs.Codes
 use Rattle.messages.specs.Messages.{headerOf}
 use Rattle.exports.specs.declared.device.Table.{Table}
-use Rattle.pending.specs.Pending.{ticketOf, seqnumOf, tickets, findBy, withoutFirst, without}
+use Rattle.pending.specs.Pending.{ticketOf, seqnumOf, tickets, findBy, placeBy, without}
 use Rattle.pending.specs.declared.counts.Counts.{Counts}
 use Rattle.pending.specs.declared.urb.Urb.{Urb}
 use Rattle.pending.proofs.Finding.{find-some}
+use Rattle.pending.proofs.Without.{first-alone}
 use Rattle.limits.specs.Limits
-use Rattle.model.specs.State.{Message, partly, headed, Sess, bytesIn, headerIn, room, place, End, returned, unlinked, dropped, ended}
+use Rattle.model.specs.State.{Message, partly, headed, Sess, withLink, withPend, withCounts, bytesIn, headerIn, room, place, End, returned}
+use Rattle.model.specs.State.{unlinked, dropped, ended}
 use Rattle.model.specs.Judging.{grownBy, grow}
 use Rattle.model.specs.Acts.{accepts, settles, shuts, drops}
 use Rattle.model.specs.Book.{Book, Item, item, pending, withPart, took, mark, markAll, pendingOf, sameEnd, count, Effect, add, settle, drop-all, shut}
 use Rattle.model.specs.Book.{nothing, apply}
 use Rattle.model.specs.Claims.{header, placeOf, Counted, Distinct, Apart, Grown, Settled, Emptied}
 use Rattle.model.proofs.Facts.{pend-snoc, count-snoc, length-snoc, counted-snoc, pend-mark, length-mark, counted-mark, mark-one, marked, grown-refl}
-use Rattle.model.proofs.Facts.{grown-snoc, mem-to, distinct-without, distinct-snoc, tickets-distinct, one-only, drop-all as all-dropped, AllDropped}
+use Rattle.model.proofs.Facts.{grown-snoc, mem-to, distinct-without, distinct-snoc, tickets-rise, drop-all as all-dropped, AllDropped}
 use Rattle.model.proofs.Growth.{grown-in, grown-whole}
 
 -- ## The message in progress, by the bytes that came for it
@@ -144,10 +146,10 @@ Does is (drop-all ts) js = Emptied is js
 Does is shut js = js ≡ is
 Does is nothing js = js ≡ is
 
--- and to the session, where it settles by the ticket
+-- and to the session, where a ticket is taken out
 abbrev pub act : Sess → Effect → Sess
 act s (add u) = accepts u s
-act s (settle t e) = settles ticketOf t e s
+act s (settle t e) = withPend (without t (s .pend)) (withLink (withCounts (ended e 1 (s .link .counts)) (s .link)) s)
 act s (drop-all ts) = drops s
 act s shut = shuts s
 act s nothing = s
@@ -193,19 +195,12 @@ dropped-by : (b : Book) (ts : List ℕ) → Counted 1 (b .items) → ts ≡ tick
     → AllDropped (b .items) (markAll ts (b .items)) (length (pendingOf (b .items)))
 dropped-by b ts c r = rw r (all-dropped (pendingOf (b .items)) (b .items) c refl)
 
--- a pending URB is taken out by any key that tells the pending ones apart
-module _ (phase : ℕ) (b : Book) (f : Fit phase b) (u : Urb) (m : List·Memᴰ u (pendingOf (b .items))) where
-  one-left : (key : Urb → ℕ) → Distinct (map key (pendingOf (b .items)))
-      → withoutFirst key (key u) (pendingOf (b .items)) ≡ without (ticketOf u) (pendingOf (b .items))
-  one-left key d = one-only key (pendingOf (b .items)) u d (tickets-distinct (b .items) (f .counted)) m
-
-  by-ticket : withoutFirst ticketOf (ticketOf u) (pendingOf (b .items)) ≡ without (ticketOf u) (pendingOf (b .items))
-  by-ticket = one-left ticketOf (tickets-distinct (b .items) (f .counted))
-
-  -- so by its seqnum as by its ticket
-  pub by-seqnum : (t : Table) (devid : ℕ) (e : End)
-      → settles seqnumOf (seqnumOf u) e (sessionOf t phase devid b) ≡ settles ticketOf (ticketOf u) e (sessionOf t phase devid b)
-  by-seqnum t devid e = sess-path t phase devid (messageIn (b .part)) (one-left seqnumOf (f .seqnums) ∙ sym by-ticket) refl
+-- the first that has a key is taken out with its ticket, as tickets rise
+pub settles-first : (t : Table) (phase devid : ℕ) (b : Book) (key : Urb → ℕ) (k : ℕ) (u : Urb) (e : End) → Fit phase b
+    → findBy key k (pendingOf (b .items)) ≡ some u
+    → let s = sessionOf t phase devid b in settles (placeBy key k (s .pend)) e s ≡ act s (settle (ticketOf u) e)
+settles-first t phase devid b key k u e f h =
+    sess-path t phase devid (messageIn (b .part)) (first-alone key k (pendingOf (b .items)) u (tickets-rise (b .items) (f .counted)) h) refl
 
 pub step : (phase : ℕ) (b : Book) (e : Effect) → Fit phase b → Allowed phase b e → Step phase b e
 step ph b (add u) f r =
@@ -278,9 +273,7 @@ act-is t ph dv b (add u) f r =
 act-is t ph dv b (settle k e) f r =
     let is = b .items in
     let m = mark-one 1 k e is (r .0) (f .counted) (r .1) in
-    let q = find-some ticketOf k (pendingOf is) (r .0) (r .1) in
-    let left : withoutFirst ticketOf k (pendingOf is) ≡ without k (pendingOf is) = rw (q .0) at (by-ticket ph b f (r .0) (q .1)) in
-    sess-path t ph dv _ (left ∙ sym (pend-mark k e is)) (ended-one e is (mark k e is) (length-mark k e is) (m .0))
+    sess-path t ph dv _ (sym (pend-mark k e is)) (ended-one e is (mark k e is) (length-mark k e is) (m .0))
 act-is t ph dv b (drop-all ts) f r =
     let g = dropped-by b ts (f .counted) r in
     sess-path t Limits.CLOSED dv _ (sym (g .none-left)) (counts-path (sym (g .long)) (sym (g .ret)) (sym (g .unl)) (sym (g .drp)))

@@ -10,9 +10,10 @@ use Rattle.messages.specs.Messages.{headerOf}
 use Rattle.messages.specs.declared.message.Transfer.{Transfer}
 use Rattle.ground.proofs.Tests.{not-iff, refutes}
 use Rattle.ground.proofs.Cases.{by-cond}
-use Rattle.pending.specs.Pending.{ticketOf, seqnumOf, findBy, found}
+use Rattle.pending.specs.Pending.{ticketOf, seqnumOf, findBy, found, ticketPlace, urbAt}
 use Rattle.pending.specs.declared.urb.Urb.{Urb}
-use Rattle.pending.proofs.Finding.{find-some, find-none}
+use Rattle.pending.proofs.Finding.{find-some, find-none, urb-first}
+use Rattle.pending.proofs.Halving.{ticket-placed}
 use Rattle.ground.proofs.Match.{Match}
 use Rattle.verdicts.specs.Verdicts.{shortRead, statusSent}
 use Rattle.verdicts.proofs.Tables
@@ -22,7 +23,7 @@ use Rattle.model.specs.Judging.{submitTestsOf, headerTestsOf}
 use Rattle.model.specs.Acts.{Buffers, feedTestsOf, Completion, theTransfer, completing, completionTestsOf}
 use Rattle.model.specs.Book.{Book, Item, pendingOf, SomePending, NonePending}
 use Rattle.model.specs.Claims.{Counted, Holder, feedRowsBy, completionRowsBy, headerRowsBy, submitRowsBy, SentAs}
-use Rattle.model.proofs.Facts.{mem-to, mem-from, distinct-one, tickets-distinct}
+use Rattle.model.proofs.Facts.{mem-to, mem-from, distinct-one, tickets-rise, tickets-distinct}
 
 -- ## Pending items and keys
 
@@ -56,6 +57,10 @@ submit-match s b h p a = rw (p, a) (Tables.submit-match (headerOf h) (s .link .d
 pub feed-match : (s : Sess) (b : Book) (lent : Buffers) → closed s ≡ b .closed → Match (feedTestsOf s lent) (feedRowsBy b lent)
 feed-match s b lent c = rw c (Tables.feed-match (b .closed) (length (lent .work)) (length (lent .reply)) (b .closed ≡ true) iff-refl)
 
+-- tickets rise, so halving finds the one that is pending under a ticket
+pub named-first : (is : List Item) (t : ℕ) → Counted 1 is → urbAt (ticketPlace t (pendingOf is)) (pendingOf is) ≡ findBy ticketOf t (pendingOf is)
+named-first is t counted = rw (ticket-placed t (pendingOf is) (tickets-rise is counted)) (urb-first ticketOf t (pendingOf is))
+
 -- what is asked of the URB that a ticket names, by the book
 module _ (b : Book) (t : ℕ) (counted : Counted 1 (b .items)) where
   pub the-one : (u : Urb) → findBy ticketOf t (pendingOf (b .items)) ≡ some u → (P : Transfer → Type 0) → P (u .transfer) ↔ Holder (b .items) t P
@@ -78,7 +83,7 @@ pub completion-match : (s : Sess) (b : Book) (c : Completion) → closed s ≡ b
     → Match (completionTestsOf s c) (completionRowsBy b c)
 completion-match s b c e p counted =
     let o = findBy ticketOf (c .ticket) (pendingOf (b .items)) in
-    rw (e, p)
+    rw (e, p, named-first (b .items) (c .ticket) counted)
     (Tables.completion-match (completing (b .closed) o c) _ _ _ iff-refl (none-iff (b .items) ticketOf (c .ticket))
     (λ f P. holder b (c .ticket) counted o refl f (λ u. P (u .length) (u .direction))))
 

@@ -18,7 +18,7 @@ use Rattle.lookup.specs.declared.Found.the-variants.{At, Nothing}
 use Rattle.importing.specs.Imports.{importReply, importRefusal}
 use Rattle.listing.specs.Lists.{listReply}
 use Rattle.transmit.specs.Part.{wireLength}
-use Rattle.pending.specs.Pending.{noTransfer, ticketOf, seqnumOf, tickets, findBy, found, withoutFirst}
+use Rattle.pending.specs.Pending.{noTransfer, seqnumOf, tickets, found, Place, placeBy, ticketPlace, urbAt, withoutAt}
 use Rattle.pending.specs.declared.counts.Counts.{Counts}
 use Rattle.pending.specs.declared.urb.Urb.{Urb}
 use Rattle.limits.specs.Limits
@@ -37,9 +37,9 @@ use Rattle.model.specs.Judging.{grow, judge, lookedUp}
 abbrev pub accepts : Urb → Sess → Sess
 accepts u s = withPend (s .pend ++ (u ∷ [])) (withLink (withCounts (oneAccepted (s .link .counts)) (s .link)) s)
 
--- The first URB that has a key is no longer pending.
-abbrev pub settles : (Urb → ℕ) → ℕ → End → Sess → Sess
-settles key k e s = withPend (withoutFirst key k (s .pend)) (withLink (withCounts (ended e 1 (s .link .counts)) (s .link)) s)
+-- The URB at a place is no longer pending.
+abbrev pub settles : Place → End → Sess → Sess
+settles p e s = withPend (withoutAt p (s .pend)) (withLink (withCounts (ended e 1 (s .link .counts)) (s .link)) s)
 
 -- The session ends; with all that is pending dropped.
 abbrev pub shuts : Sess → Sess
@@ -62,7 +62,7 @@ attaches d s = withLink (attachedAs (devidOf d) (s .link)) s
 -- An unlink takes out the URB that has its unlink_seqnum.
 abbrev pub afterUnlink : Sess → Option ℕ → Sess
 afterUnlink s none = s
-afterUnlink s (some t) = settles seqnumOf (unlinkSeqnum (headerIn (s .link .message))) unlinked s
+afterUnlink s (some t) = settles (placeBy seqnumOf (unlinkSeqnum (headerIn (s .link .message))) (s .pend)) unlinked s
 
 -- The session after a feed's event.
 abbrev pub after : Sess → Event → Sess
@@ -157,8 +157,12 @@ completing closed o c =
       direction = theTransfer o .direction;
     }
 
+-- The URB that a completion names: its ticket's, found by halving.
+abbrev pub namedPlace : Sess → Completion → Place
+namedPlace s c = ticketPlace (c .ticket) (s .pend)
+
 abbrev pub named : Sess → Completion → Option Urb
-named s c = findBy ticketOf (c .ticket) (s .pend)
+named s c = urbAt (namedPlace s c) (s .pend)
 
 abbrev pub completionTestsOf : Sess → Completion → List (Test ℕ)
 completionTestsOf s c = Verdicts.completionTests (completing (closed s) (named s c) c)
@@ -181,7 +185,7 @@ completeOf s c =
     (record {
       answer = done (record { wire = wireLength (u .direction) (c .actual); status = sent });
       header = over (replyFor u sent (c .actual)) (c .header);
-      next = settles ticketOf (c .ticket) returned s;
+      next = settles (namedPlace s c) returned s;
     })
 
 -- ## Closing and opening

@@ -15,7 +15,8 @@ use Rattle.exports.specs.declared.device.Table.{Table}
 use Rattle.tables.specs.Tables.{Rules}
 use Rattle.lookup.specs.Lookup.{FirstDevice, devidOf}
 use Rattle.transmit.specs.Part.{partOf, Sends}
-use Rattle.pending.specs.Pending.{ticketOf, tickets}
+use Rattle.halving.specs.Halving.{allPlaces, unsettled, afterLooks, binaryDigits}
+use Rattle.pending.specs.Pending.{ticketOf, tickets, noUrb, At, Nothing, ticketPlace}
 use Rattle.pending.specs.declared.urb.Urb.{Urb}
 use Rattle.limits.specs.Limits
 use Rattle.ground.specs.Rows.{Row, Gives, Clear}
@@ -72,6 +73,19 @@ RefusedIff = (t : Table) (cs : List Call)
     ((p : List ℕ) (lent : Buffers) → ByTable (feedRowsBy b lent) (feedOf s lent p .event))
     × ((c : Completion) → ByTable (completionRowsBy b c) (completeOf s c .answer))
     × ByTable (closeRowsBy b) (closeOf s .answer)
+
+-- ## Finding a ticket
+
+-- With as many looks as the pending count has binary digits, each at one pending URB, the search for a ticket is settled. It ends at a
+-- place exactly if the URB there has the ticket, and nowhere exactly if no pending item has it.
+pub record TicketSought (s : Sess) (b : Book) (k : ℕ) : Type 0 where
+  pub settled : let n = length (s .pend) in unsettled (afterLooks (binaryDigits n) k (tickets (s .pend)) (allPlaces n)) ≡ false
+  pub place : (i : ℕ) → (ticketPlace k (s .pend) ≡ At i) ↔ ((i < length (s .pend)) × (ticketOf (getD (s .pend) i noUrb) ≡ k))
+  pub nowhere : (ticketPlace k (s .pend) ≡ Nothing) ↔ NonePending (b .items) ticketOf k
+
+-- After every list of calls, and for every ticket.
+abbrev pub TicketFound : Type 0
+TicketFound = (t : Table) (cs : List Call) (k : ℕ) → TicketSought (sessionFrom t cs) (bookFrom t cs) k
 
 -- ## A late ticket
 

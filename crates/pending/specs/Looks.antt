@@ -1,6 +1,6 @@
 -- What is looked up in the list of pending URBs.
 use Prim.Native.Nat.{ℕ}
-use mathlib.Core.Bool.{Bool, true, false, cond}
+use mathlib.Core.Bool.{true, false}
 use mathlib.Core.List.{List}
 use lib.ListN.{getD}
 use Rattle.pending.specs.declared.urb.Urb.{Urb}
@@ -8,11 +8,7 @@ use Rattle.pending.specs.declared.look.Look.{Look}
 use Rattle.pending.specs.declared.look.Key.{Key}
 use Rattle.pending.specs.declared.look.Key.the-variants.{Nothing as NoKey, Seqnum, Ticket}
 use Rattle.limits.specs.Limits.{MAX-PENDING}
-use Rattle.pending.specs.Pending.{ticketOf, seqnumOf, noTransfer, noUrb, Place, At, Nothing, placeBy}
-
--- A URB's ticket or its seqnum.
-abbrev pub keyOf : (ticket : Bool) → Urb → ℕ
-keyOf ticket u = cond ticket (ticketOf u) (seqnumOf u)
+use Rattle.pending.specs.Pending.{ticketOf, seqnumOf, noTransfer, noUrb, Place, At, Nothing, placeBy, ticketPlace}
 
 -- None was found.
 abbrev pub noLook : Look
@@ -27,7 +23,8 @@ lookAt us (At i) = record { found = true; place = i; ticket = ticketOf (getD us 
 abbrev pub lookBy : (Urb → ℕ) → ℕ → List Urb → Look
 lookBy key k us = lookAt us (placeBy key k us)
 
+-- A seqnum is looked for from the front, a ticket by halving.
 abbrev pub lookFor : List Urb → Key → Look
 lookFor us NoKey = noLook
 lookFor us (Seqnum q) = lookBy seqnumOf q us
-lookFor us (Ticket t) = lookBy ticketOf t us
+lookFor us (Ticket t) = lookAt us (ticketPlace t us)

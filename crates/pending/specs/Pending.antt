@@ -9,6 +9,9 @@ use lib.ListN.{length, take, drop, getD, replicate}
 use Rattle.wire.specs.Codes.{SETUP-LEN}
 use Rattle.messages.specs.declared.message.Transfer.{Transfer}
 use Rattle.limits.specs.Limits.{MAX-PENDING}
+use Rattle.ground.specs.Lists.{Rising}
+use Rattle.halving.specs.declared.Search.{Search}
+use Rattle.halving.specs.Halving.{halved}
 use Rattle.pending.specs.declared.urb.Urb.{Urb}
 use Rattle.pending.specs.declared.list.Pending.{Pending}
 use Rattle.pending.specs.declared.list.Tickets.{Tickets}
@@ -59,10 +62,22 @@ placeFrom i key k (u ∷ us) = cond (eqb (key u) k) (At i) (placeFrom (suc i) ke
 abbrev pub placeBy : (Urb → ℕ) → ℕ → List Urb → Place
 placeBy key k us = placeFrom 0 key k us
 
--- All but the first with a key.
-abbrev pub withoutFirst : (Urb → ℕ) → ℕ → List Urb → List Urb
-withoutFirst key k [] = []
-withoutFirst key k (u ∷ us) = cond (eqb (key u) k) us (u ∷ withoutFirst key k us)
+-- The place of a ticket, found by halving: the list is in ticket order.
+abbrev pub placeHalved : Search → Place
+placeHalved s = cond (s .found) (At (s .low)) Nothing
+
+abbrev pub ticketPlace : ℕ → List Urb → Place
+ticketPlace t us = placeHalved (halved t (tickets us))
+
+-- The one at a place.
+abbrev pub urbAt : Place → List Urb → Option Urb
+urbAt (At i) us = some (getD us i noUrb)
+urbAt Nothing us = none
+
+-- All but the one at a place.
+abbrev pub withoutAt : Place → List Urb → List Urb
+withoutAt (At i) us = take i us ++ drop (suc i) us
+withoutAt Nothing us = us
 
 -- All but those with a ticket.
 abbrev pub without : ℕ → List Urb → List Urb
@@ -101,3 +116,11 @@ pub record FirstAt (key : Urb → ℕ) (k : ℕ) (us : List Urb) (i : ℕ) : Typ
   pub inside : i < length us
   pub has : key (getD us i noUrb) ≡ k
   pub before : (j : ℕ) → j < i → key (getD us j noUrb) ≡ k → ⊥
+
+-- Where tickets rise, as after every list of calls, halving finds the first that has the ticket: its place, or none where none has it.
+abbrev pub TicketPlaced : Type 0
+TicketPlaced = (t : ℕ) (us : List Urb) → Rising (tickets us) → ticketPlace t us ≡ placeBy ticketOf t us
+
+-- Whether they rise or not, what is found has the ticket.
+abbrev pub TicketInside : Type 0
+TicketInside = (t : ℕ) (us : List Urb) (i : ℕ) → ticketPlace t us ≡ At i → (i < length us) × (ticketOf (getD us i noUrb) ≡ t)

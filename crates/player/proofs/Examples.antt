@@ -13,6 +13,7 @@ use Rattle.importing.specs.Imports.{importReply, importRefusal}
 use Rattle.listing.specs.Lists.{listedDevice, listReply}
 use Rattle.limits.specs.Limits
 use Rattle.ground.specs.Tests.{decide, pick}
+use Rattle.halving.specs.Halving.{looked, binaryDigits, halved}
 use Rattle.model.specs.Machine.{feed}
 use Rattle.model.specs.State.{Sess}
 use Rattle.model.specs.Judging.{grow, submitted, submitting, wholeHeader, message, requested, lookedUp, request, judge}
@@ -79,5 +80,5 @@ pub examples :
     ∷ []
 unfolding text goodDevice goodTable tapeTable deviceRecord listedDevice listReply importReply importRefusal
     decide pick feed grow submitted submitting wholeHeader message requested lookedUp request
-    judge replyTo put writeReply feedOf completeOf closeOf openOf fedOf numeral digits playStream
+    judge replyTo put writeReply feedOf looked binaryDigits halved completeOf closeOf openOf fedOf numeral digits playStream
 examples = refl

@@ -11,12 +11,12 @@ use Rattle.ground.specs.Writing.{over}
 use Rattle.exports.specs.declared.device.Table.{Table}
 use Rattle.transmit.specs.Part.{wireLength}
 use Rattle.pending.specs.Changes.{changed, removes, clears}
-use Rattle.pending.specs.Looks.{lookBy}
-use Rattle.pending.specs.Pending.{ticketOf, tickets, findBy, At, placeBy, listOf, Whole}
+use Rattle.pending.specs.Looks.{lookAt}
+use Rattle.pending.specs.Pending.{tickets, found, Place, At, Nothing, ticketPlace, urbAt, listOf, Whole}
 use Rattle.pending.specs.declared.list.Pending.{Pending}
 use Rattle.pending.specs.declared.look.Look.{Look}
 use Rattle.pending.specs.declared.urb.Urb.{Urb}
-use Rattle.pending.proofs.Finding.{look-found, look-none, look-some, look-place}
+use Rattle.pending.proofs.Halving.{ticket-inside}
 use Rattle.pending.proofs.Laws.{view-length, keep-is, remove-view, remove-count}
 use Rattle.limits.specs.Limits
 use Rattle.ground.specs.Tests.{Test, first, decide, pick}
@@ -40,12 +40,18 @@ use Rattle.settling.specs.declared.completion.Given.{Given}
 
 -- ## A completion
 
-look-transfer : (ticket : ℕ) (us : List Urb) → lookBy ticketOf ticket us .transfer ≡ theTransfer (findBy ticketOf ticket us)
-look-transfer ticket us = at (findBy ticketOf ticket us) refl
-  where
-    at : (o : Option Urb) → findBy ticketOf ticket us ≡ o → lookBy ticketOf ticket us .transfer ≡ theTransfer o
-    at none e = rw (look-none ticketOf ticket us e)
-    at (some u) e = look-some ticketOf ticket us u e .2
+-- what is seen at a place is the URB there
+look-found : (us : List Urb) (p : Place) → lookAt us p .found ≡ found (urbAt p us)
+look-found us (At i) = refl
+look-found us Nothing = refl
+
+look-transfer : (us : List Urb) (p : Place) → lookAt us p .transfer ≡ theTransfer (urbAt p us)
+look-transfer us (At i) = refl
+look-transfer us Nothing = refl
+
+look-place : (us : List Urb) (p : Place) → lookAt us p .found ≡ true → p ≡ At (lookAt us p .place)
+look-place us (At i) f = refl
+look-place us Nothing f = absurd (true≢false (sym f))
 
 -- as the definitions have it
 abbrev acceptedCompletion : Sess → Acts.Completion → Acts.Complete
@@ -55,7 +61,7 @@ acceptedCompletion s c =
     record {
       answer = done (record { wire = wireLength (u .direction) (c .actual); status = sent });
       header = over (Acts.replyFor u sent (c .actual)) (c .header);
-      next = Acts.settles ticketOf (c .ticket) returned s;
+      next = Acts.settles (Acts.namedPlace s c) returned s;
     }
 
 module _ (s : Sess) (c : Acts.Completion) where
@@ -71,8 +77,11 @@ module _ (t : Table) (k : Link) (l : Pending) (c : Acts.Completion) (w : Whole l
   abbrev s : Parts
   s = whole t k l
 
+  abbrev where-is : Place
+  where-is = ticketPlace (c .ticket) (listOf l)
+
   abbrev look : Look
-  look = lookBy ticketOf (c .ticket) (listOf l)
+  look = lookAt (listOf l) where-is
 
   abbrev given : Given
   given = record { status = c .status; actual = c .actual }
@@ -83,13 +92,13 @@ module _ (t : Table) (k : Link) (l : Pending) (c : Acts.Completion) (w : Whole l
   -- the code judges by what the definitions judge by
   judged : tests ≡ Acts.completionTestsOf (viewOfParts s) c
   judged =
-      let u = look-transfer (c .ticket) (listOf l) in
+      let u = look-transfer (listOf l) where-is in
       λ i.
       Verdicts.completionTests
       (record {
         closed = eqb (phaseOf k (l .count)) Limits.CLOSED;
         header = length (c .header);
-        found = look-found ticketOf (c .ticket) (listOf l) i;
+        found = look-found (listOf l) where-is i;
         status = c .status;
         actual = c .actual;
         payload = length (c .payload);
@@ -114,8 +123,10 @@ module _ (t : Table) (k : Link) (l : Pending) (c : Acts.Completion) (w : Whole l
     known : (l .count ≤ Limits.MAX-PENDING) × (k .counts .accepted ≡ l .count + k .counts .returned + k .counts .unlinked + k .counts .dropped)
     known = counts-known (k .counts) (l .count) (v .0)
 
-    placed : (placeBy ticketOf (c .ticket) (listOf l) ≡ At (look .place)) × (look .place < l .count)
-    placed = let p = look-place ticketOf (c .ticket) (listOf l) f in (p .0, omega (arith, p .1, view-length l w (known .0)))
+    placed : (where-is ≡ At (look .place)) × (look .place < l .count)
+    placed =
+        let p = look-place (listOf l) where-is f in
+        (p, omega (arith, ticket-inside (c .ticket) (listOf l) (look .place) p .0, view-length l w (known .0)))
 
     counted : plus (k .counts .returned) 1 ≡ k .counts .returned + 1
     counted = plus-fits (k .counts .returned) 1 (k .counts .accepted) b (omega (arith, placed .1, known .1))
@@ -127,11 +138,11 @@ module _ (t : Table) (k : Link) (l : Pending) (c : Acts.Completion) (w : Whole l
         let even = even-counts counts (left .count) (omega (arith, known .0)) (omega (arith, known .1)) in
         rw counted (view-fit (whole t (linkWithCounts counts k) left) even (v .1))
 
-    settled : viewOfParts (whole t (returnedLink k) left) ≡ Acts.settles ticketOf (c .ticket) returned (viewOfParts s)
+    settled : viewOfParts (whole t (returnedLink k) left) ≡ Acts.settles where-is returned (viewOfParts s)
     settled =
-        let bare : bareOf (whole t (returnedLink k) left) ≡ Acts.settles ticketOf (c .ticket) returned (bareOf s) =
-        rw (counted, remove-view l (look .place) w ticketOf (c .ticket) (known .0) (placed .0)) in
-        fits ∙ bare ∙ ap (Acts.settles ticketOf (c .ticket) returned) (sym (live-view s v))
+        let bare : bareOf (whole t (returnedLink k) left) ≡ Acts.settles where-is returned (bareOf s) =
+        rw (counted, remove-view l (look .place) w where-is (placed .0) (placed .1) (known .0)) in
+        fits ∙ bare ∙ ap (Acts.settles where-is returned) (sym (live-view s v))
 
     returned-tidy : TidyParts s → TidyParts (whole t (returnedLink k) left)
     returned-tidy h =
@@ -141,7 +152,7 @@ module _ (t : Table) (k : Link) (l : Pending) (c : Acts.Completion) (w : Whole l
   returned-done b f =
       let good = completion-clear (judgedBy (phaseOf k (l .count)) look given (length (c .payload)) (length (c .header))) f in
       let v = live s (good .0) in
-      let u = look-transfer (c .ticket) (listOf l) in
+      let u = look-transfer (listOf l) where-is in
       let e = settled b v (good .2) in
       record {
         fits = λ _. good .1;

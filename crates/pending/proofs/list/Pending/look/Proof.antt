@@ -15,11 +15,8 @@ enum-known-key c = search needs
 len-requires : tie.Need-len-requires
 len-requires c κs = search needs
 
-cast-look-by : tie.Need-cast-look-by
-cast-look-by c = search needs
-
-look-by-requires : tie.Need-look-by-requires
-look-by-requires c κs = search needs
+look-seqnum-requires : tie.Need-look-seqnum-requires
+look-seqnum-requires c κs = search needs
 
 enum-known-key-2 : tie.Need-enum-known-key-2
 enum-known-key-2 c = search needs
@@ -27,8 +24,8 @@ enum-known-key-2 c = search needs
 len-requires-2 : tie.Need-len-requires-2
 len-requires-2 c κs = search needs
 
-look-by-requires-2 : tie.Need-look-by-requires-2
-look-by-requires-2 c κs = search needs
+look-ticket-requires : tie.Need-look-ticket-requires
+look-ticket-requires c κs = search needs
 
 returns : tie.Need-returns
 returns c = search needs
@@ -37,13 +34,13 @@ returns-2 : tie.Need-returns-2
 returns-2 c =
     let n = c .before in
     let s = n .before .before .before .before .before .args .self in
-    rw (n .before .before .before .key .given .1) (rw (n .len .ensures .0, take-of (s .count) (s .urbs)) at (c .look-by .ensures))
+    rw (n .before .before .before .key .given .1) (rw (n .len .ensures .0, take-of (s .count) (s .urbs)) at (c .look-seqnum .ensures))
 
 returns-3 : tie.Need-returns-3
 returns-3 c =
     let n = c .before in
     let s = n .before .before .before .before .before .args .self in
-    rw (n .before .before .before .key2 .given .1) (rw (n .len2 .ensures .0, take-of (s .count) (s .urbs)) at (c .look-by2 .ensures))
+    rw (n .before .before .before .key2 .given .1) (rw (n .len2 .ensures .0, take-of (s .count) (s .urbs)) at (c .look-ticket .ensures))
 
 pub look-spec : {M : Type 1} → statement M
 look-spec =
@@ -53,11 +50,10 @@ look-spec =
     no-look-requires
     enum-known-key
     len-requires
-    cast-look-by
-    look-by-requires
+    look-seqnum-requires
     enum-known-key-2
     len-requires-2
-    look-by-requires-2
+    look-ticket-requires
     returns
     returns-2
     returns-3)

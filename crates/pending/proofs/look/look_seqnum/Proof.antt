@@ -1,19 +1,19 @@
 use borrow.Author.Needs.{needs}
 use Prim.Native.Nat.{_-_}
 use native.Mathlib.Omega.{arith}
-use mathlib.Core.Path.{_≡_, refl, sym, _∙_}
+use mathlib.Core.Path.{_≡_, refl, _∙_}
 use lib.ListN.{length}
 use Rattle.limits.specs.Limits.{MAX-PENDING}
-use Rattle.pending.specs.Looks.{keyOf}
+use Rattle.pending.specs.Pending.{seqnumOf}
 use Rattle.pending.proofs.Walks.{Searching, hit, miss, end}
-use Rattle.pending.proofs.look.look_by.Statement.{statement}
-use Rattle.pending.proofs.look.look_by.Tie as tie
+use Rattle.pending.proofs.look.look_seqnum.Statement.{statement}
+use Rattle.pending.proofs.look.look_seqnum.Tie as tie
 
 abbrev Inv-loop : tie.InvT-loop
-Inv-loop count ticket k urbs i₀ i = Searching (keyOf ticket) k count urbs i
+Inv-loop count seqnum urbs i₀ i = Searching seqnumOf seqnum count urbs i
 
 abbrev μ-loop : tie.MeasureT-loop
-μ-loop count ticket k urbs i₀ i = count - i
+μ-loop count seqnum urbs i₀ i = count - i
 
 size : (c : tie.Start Inv-loop μ-loop) → length (c .args .t1) ≡ MAX-PENDING
 size c = search needs
@@ -27,16 +27,12 @@ mul-u c = search needs
 array-copy-out-u : tie.Need-array-copy-out-u Inv-loop μ-loop
 array-copy-out-u c = search needs
 
-key-of-requires : tie.Need-key-of-requires Inv-loop μ-loop
-key-of-requires c κs = search needs
-
 returns : tie.Need-returns Inv-loop μ-loop
 returns c =
-    let t = c .before in
-    let l = t .before .before .before .before in
+    let l = c .before .before .before .before .before in
     let a = l .before .args in
-    hit (keyOf (a .ticket)) (a .k) (a .count) (a .t1) (l .loop .i) (omega arith) (omega (arith, size (l .before))) (l .loop .inv)
-    (sym (t .before .key-of .ensures) ∙ t .if1 .taken)
+    hit seqnumOf (a .seqnum) (a .count) (a .t1) (l .loop .i) (omega arith) (omega (arith, size (l .before))) (l .loop .inv)
+    (c .if1 .taken)
 
 add-i : tie.Need-add-i Inv-loop μ-loop
 add-i c = search needs
@@ -46,10 +42,10 @@ loop-less c = search needs
 
 loop-again : tie.Need-loop-again Inv-loop μ-loop
 loop-again c =
-    let l = c .before .before .before .before in
+    let l = c .before .before .before .before .before in
     let a = l .before .args in
-    miss (keyOf (a .ticket)) (a .k) (a .count) (a .t1) (l .loop .i) (omega arith) (omega (arith, size (l .before))) (l .loop .inv)
-    (λ e. c .if1 .left (c .before .key-of .ensures ∙ e))
+    miss seqnumOf (a .seqnum) (a .count) (a .t1) (l .loop .i) (omega arith) (omega (arith, size (l .before))) (l .loop .inv)
+    (c .if1 .left)
 
 no-look-requires : tie.Need-no-look-requires Inv-loop μ-loop
 no-look-requires c κs = search needs
@@ -58,10 +54,10 @@ returns-2 : tie.Need-returns-2 Inv-loop μ-loop
 returns-2 c =
     let l = c .before .before in
     let a = l .before .args in
-    c .no-look .ensures ∙ end (keyOf (a .ticket)) (a .k) (a .count) (a .t1) (l .loop .i) (omega arith) (l .loop .inv)
+    c .no-look .ensures ∙ end seqnumOf (a .seqnum) (a .count) (a .t1) (l .loop .i) (omega arith) (l .loop .inv)
 
-pub look-by-spec : {M : Type 1} → statement M
-look-by-spec =
+pub look-seqnum-spec : {M : Type 1} → statement M
+look-seqnum-spec =
     tie.close
     (tie.spec
     Inv-loop
@@ -69,7 +65,6 @@ look-by-spec =
     loop-holds
     mul-u
     array-copy-out-u
-    key-of-requires
     returns
     add-i
     loop-less
