@@ -19,6 +19,7 @@
 
 /* The head of a request, 8 bytes, at the end of the tail. */
 #define REQUEST (RIMEMAPLE_HEADER_LEN - 8)
+#define REQUEST_STATUS (RIMEMAPLE_HEADER_LEN - 4)
 
 #define EVENTS_TEXT_MAX 256
 
@@ -60,9 +61,10 @@ static void report_break(const struct report *r, uint32_t number, size_t dropped
 {
     const uint8_t *t = r->tail;
 
-    if (number <= RIMEMAPLE_BAD_CODE)
-        log_line(r->connection, "BREAK %" PRIu32 ", dropped %zu tickets; version %04" PRIx32 " code %04" PRIx32,
-                 number, dropped, be32(t + REQUEST) >> 16, be32(t + REQUEST) & 0xffff);
+    if (r->events[RIMEMAPLE_IMPORT] == 0)
+        log_line(r->connection,
+                 "BREAK %" PRIu32 ", dropped %zu tickets; version %04" PRIx32 " code %04" PRIx32 " status %08" PRIx32,
+                 number, dropped, be32(t + REQUEST) >> 16, be32(t + REQUEST) & 0xffff, be32(t + REQUEST_STATUS));
     else
         log_line(r->connection,
                  "BREAK %" PRIu32 ", dropped %zu tickets; command %" PRIu32 " seq %" PRIu32 " %s ep %" PRIu32

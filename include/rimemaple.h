@@ -23,7 +23,7 @@ extern "C" {
 #endif
 
 /* The version of this face: it rises with each change of a function, a struct or an answer. */
-#define RIMEMAPLE_VERSION 2
+#define RIMEMAPLE_VERSION 3
 
 /* The limits (docs/PROTOCOL.md, 5). */
 #define RIMEMAPLE_MAX_DEVICES 16
@@ -48,7 +48,7 @@ extern "C" {
 #define RIMEMAPLE_SUBMIT 3   /* accepted: the device starts event.ticket; nothing is sent yet */
 #define RIMEMAPLE_ANSWER 4   /* a submit refused with event.status: -19, -22 or -12; its RET_SUBMIT is the reply */
 #define RIMEMAPLE_UNLINK 5   /* its RET_UNLINK is the reply; event.removed is the ticket to cancel, 0 if none */
-#define RIMEMAPLE_BREAK 6    /* the stream is at fault with event.number, 10 to 16; the session is closed: hang up */
+#define RIMEMAPLE_BREAK 6    /* the stream is at fault with event.number, 10 to 18; the session is closed: hang up */
 #define RIMEMAPLE_REFUSED 7  /* nothing changed: event.number is 1 or 3 */
 
 /* Refusals, by number: nothing changed, and no byte was written. */
@@ -68,6 +68,8 @@ extern "C" {
 #define RIMEMAPLE_BAD_LENGTH 14
 #define RIMEMAPLE_BAD_PACKETS 15
 #define RIMEMAPLE_SEQNUM_PENDING 16
+#define RIMEMAPLE_DIRTY_PADDING 17   /* a request's status, or a byte of an unlink that has no use, isn't 0 */
+#define RIMEMAPLE_BAD_DEVID 18       /* an unlink's devid isn't the attached device's */
 
 /* ---- What the box exports ---- */
 
@@ -122,6 +124,7 @@ struct rimemaple_header {
     uint32_t devid;
     struct rimemaple_transfer transfer;
     uint8_t setup[RIMEMAPLE_SETUP_LEN];
+    size_t dirty;       /* where the first byte of an unlink's padding stands that isn't 0 */
 };
 
 struct rimemaple_progress {

@@ -208,10 +208,19 @@ static void submits(void)
     check("its seqnum and reply", fed.event.seqnum == 0x01020320 && fed.length == RIMEMAPLE_HEADER_LEN);
 }
 
+static void put_unlink(uint8_t *message, uint32_t seqnum)
+{
+    static const uint8_t head[8] = {0, 0, 0, 2, 0x0a, 0x0b, 0x0c, 0x0d};
+    memset(message, 0, RIMEMAPLE_HEADER_LEN);
+    memcpy(message, head, sizeof head);
+    put(message + 8, (uint32_t)rimemaple_devid(session), 4);
+    put(message + 20, seqnum, 4);
+}
+
 static void unlink_of(uint32_t seqnum, int32_t status, uint64_t removed)
 {
-    uint8_t message[RIMEMAPLE_HEADER_LEN] = {0, 0, 0, 2, 0x0a, 0x0b, 0x0c, 0x0d};
-    put(message + 20, seqnum, 4);
+    uint8_t message[RIMEMAPLE_HEADER_LEN];
+    put_unlink(message, seqnum);
     struct rimemaple_event e = feed(message, sizeof message).event;
     check("unlink", e.kind == RIMEMAPLE_UNLINK && e.seqnum == 0x0a0b0c0d);
     check("its status and ticket", e.status == status && e.removed == removed);
@@ -253,6 +262,23 @@ static int tickets_left(const struct rimemaple_tickets *t)
     for (size_t i = 0; i < t->count; i++)
         right = right && t->tickets[i] == 6 + i;
     return right;
+}
+
+static int breaks_with(const uint8_t *message, uint32_t number)
+{
+    struct rimemaple_fed fed =
+        rimemaple_feed(session, message, RIMEMAPLE_HEADER_LEN, work, sizeof work, reply, sizeof reply);
+    return fed.event.kind == RIMEMAPLE_BREAK && fed.event.number == number && fed.length == 0 && tickets_left(&fed.dropped);
+}
+
+static void unlinks_break(void)
+{
+    uint8_t message[RIMEMAPLE_HEADER_LEN];
+    put_unlink(message, 0x01020306);
+    message[11] ^= 1;
+    check("break 18", breaks_with(message, RIMEMAPLE_BAD_DEVID));
+    message[47] = 1;
+    check("break 17", breaks_with(message, RIMEMAPLE_DIRTY_PADDING));
 }
 
 static void breaks(void)
@@ -313,6 +339,7 @@ int main(void)
     progresses();
     submits();
     settles();
+    unlinks_break();
     breaks();
     closes();
     sends();

@@ -56,6 +56,8 @@ static void print_numbers(void)
     CONSTANT(BAD_LENGTH);
     CONSTANT(BAD_PACKETS);
     CONSTANT(SEQNUM_PENDING);
+    CONSTANT(DIRTY_PADDING);
+    CONSTANT(BAD_DEVID);
 }
 
 static void print_table(void)
@@ -101,6 +103,7 @@ static void print_message(void)
     FIELD(header, devid);
     FIELD(header, transfer);
     FIELD(header, setup);
+    FIELD(header, dirty);
     STRUCT(progress);
     FIELD(progress, head);
     FIELD(progress, filled);

@@ -32,9 +32,10 @@ pub fn with_data(submit: &CmdSubmit, random: &mut Random) -> Vec<u8> {
     message
 }
 
-pub fn unlink(seqnum: u32, unlink_seqnum: u32) -> Vec<u8> {
+pub fn unlink(seqnum: u32, devid: u32, unlink_seqnum: u32) -> Vec<u8> {
     let unlink = CmdUnlink {
         seqnum,
+        devid,
         unlink_seqnum,
         ..CmdUnlink::default()
     };
@@ -51,7 +52,7 @@ pub fn messages(random: &mut Random, devices: &[Device]) -> Messages {
         let message = match random.below(100) {
             _ if filling => submit(seqnum, device.devid()).header().to_vec(),
             0..=64 => any_submit(random, seqnum, device.devid()),
-            65..=98 => any_unlink(random, seqnum),
+            65..=98 => any_unlink(random, seqnum, device.devid()),
             _ => random.bytes(48),
         };
         messages.push(message);
@@ -73,8 +74,10 @@ fn request(random: &mut Random, device: &Device) -> Vec<u8> {
         }
     }
     let mut request = op_req_import(&busid);
-    let status = random.bytes(4);
-    request[4..OP_COMMON_SIZE].copy_from_slice(&status);
+    if random.chance(4) {
+        let status = random.bytes(4);
+        request[4..OP_COMMON_SIZE].copy_from_slice(&status);
+    }
     request
 }
 
@@ -104,10 +107,16 @@ fn any_submit(random: &mut Random, seqnum: u32, devid: u32) -> Vec<u8> {
     with_data(&submit, random)
 }
 
-fn any_unlink(random: &mut Random, seqnum: u32) -> Vec<u8> {
-    let mut message = unlink(seqnum, random.below(seqnum as usize + 1) as u32);
-    let ignored = random.bytes(36);
-    message[8..20].copy_from_slice(&ignored[..12]);
-    message[24..].copy_from_slice(&ignored[12..]);
+/// An unlink, now and then with another devid, and with a bit of its padding set.
+fn any_unlink(random: &mut Random, seqnum: u32, devid: u32) -> Vec<u8> {
+    let devid = match random.chance(3) {
+        true => random.pick(&[0, devid ^ 1, devid ^ 0x8000_0000]),
+        false => devid,
+    };
+    let mut message = unlink(seqnum, devid, random.below(seqnum as usize + 1) as u32);
+    if random.chance(3) {
+        let padding: Vec<usize> = (12..20).chain(24..48).collect();
+        message[random.pick(&padding)] ^= 1 << random.below(8);
+    }
     message
 }

@@ -31,7 +31,7 @@ impl Reached {
 }
 
 /// The kinds of a feed's answer.
-pub const FEEDS: [&str; 19] = [
+pub const FEEDS: [&str; 21] = [
     "hungry",
     "list",
     "import 0",
@@ -49,6 +49,8 @@ pub const FEEDS: [&str; 19] = [
     "break 14",
     "break 15",
     "break 16",
+    "break 17",
+    "break 18",
     "refused 1",
     "refused 3",
 ];

@@ -46,11 +46,11 @@ fn attached(random: &mut Random, direction: u32, length: u32) -> Connection {
     before.extend(submit(1, devid).header());
     before.extend(with_data(&tested, random));
     before.extend(submit(3, devid).header());
-    before.extend(unlink(5, 3));
+    before.extend(unlink(5, devid, 3));
     let mut later = with_data(&going_on, random);
     before.extend(later.drain(..random.below(112)));
     // Whether it is pending still.
-    later.extend(unlink(6, tested.seqnum));
+    later.extend(unlink(6, devid, tested.seqnum));
     connection(&devices, &before, &later)
 }
 

@@ -99,7 +99,7 @@ fn attached(devices: &[Device], random: &mut Random) -> Session {
     for seqnum in 1..=4 {
         pair.stream(&submit(seqnum, devid).header());
     }
-    pair.stream(&unlink(5, 2));
+    pair.stream(&unlink(5, devid, 2));
     let mut session = pair.library;
     let returned = session.complete(4, 0, 0, &[], &mut [0; HEADER_SIZE]);
     assert!(returned.is_ok());

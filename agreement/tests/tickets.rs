@@ -37,21 +37,22 @@ fn with_pending(count: usize, stays: Stays, random: &mut Random) -> Pair {
     pair.stream(&op_req_import(&devices[0].busid));
     let mut ticket = 0;
     let mut missing = true;
+    let devid = devices[0].devid();
     while missing {
         ticket += 1;
         missing = pair.reference.pending().len() < count;
-        pair.stream(&submit(2 * ticket as u32, devices[0].devid()).header());
+        pair.stream(&submit(2 * ticket as u32, devid).header());
         if !missing || !stays(ticket, random) {
-            end(&mut pair, ticket, random);
+            end(&mut pair, devid, ticket, random);
         }
     }
     pair
 }
 
 /// Where a submit was accepted with this ticket, it is over.
-fn end(pair: &mut Pair, ticket: u64, random: &mut Random) {
+fn end(pair: &mut Pair, devid: u32, ticket: u64, random: &mut Random) {
     if random.chance(50) {
-        pair.stream(&unlink(1, 2 * ticket as u32));
+        pair.stream(&unlink(1, devid, 2 * ticket as u32));
     } else {
         let _ = pair.complete(&completion(ticket), &mut [0; HEADER_SIZE]);
     }

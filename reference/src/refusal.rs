@@ -25,6 +25,8 @@ pub enum Break {
     TransferBufferLength = 14,
     NumberOfPackets = 15,
     Seqnum = 16,
+    Padding = 17,
+    Devid = 18,
 }
 
 impl Refusal {

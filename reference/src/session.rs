@@ -3,7 +3,7 @@
 use crate::refusal::{Break, Refusal, ECONNRESET, EINVAL, ENODEV, ENOMEM, EREMOTEIO};
 use crate::table::{self, Device};
 use crate::wire::{
-    self, be16, CmdSubmit, CmdUnlink, Command, RetSubmit, HEADER_SIZE, NOT_ISOCHRONOUS,
+    self, be16, be32, CmdSubmit, CmdUnlink, Command, RetSubmit, HEADER_SIZE, NOT_ISOCHRONOUS,
     OP_COMMON_SIZE, OP_REQ_IMPORT_SIZE, URB_SHORT_NOT_OK, USBIP_DIR_IN, USBIP_DIR_OUT,
 };
 
@@ -250,11 +250,17 @@ impl Session {
         if be16(&self.head, 0) != wire::USBIP_VERSION {
             return self.break_with(Break::Version);
         }
-        match be16(&self.head, 2) {
+        let code = be16(&self.head, 2);
+        if ![wire::OP_REQ_DEVLIST, wire::OP_REQ_IMPORT].contains(&code) {
+            return self.break_with(Break::Code);
+        }
+        if be32(&self.head, 4) != 0 {
+            return self.break_with(Break::Padding);
+        }
+        match code {
             wire::OP_REQ_DEVLIST => self.list(),
-            wire::OP_REQ_IMPORT if self.fill_head(OP_REQ_IMPORT_SIZE, rest) => self.import(),
-            wire::OP_REQ_IMPORT => HUNGRY,
-            _ => self.break_with(Break::Code),
+            _ if self.fill_head(OP_REQ_IMPORT_SIZE, rest) => self.import(),
+            _ => HUNGRY,
         }
     }
 
@@ -285,7 +291,7 @@ impl Session {
         }
         let submit = match Command::read(&self.head) {
             None => return self.break_with(Break::Command),
-            Some(Command::Unlink(unlink)) => return self.unlink(&unlink),
+            Some(Command::Unlink(unlink)) => return self.read_unlink(&unlink, devid),
             Some(Command::Submit(submit)) => submit,
         };
         // Breaks come with the 48th byte and never later.
@@ -298,6 +304,16 @@ impl Session {
             return HUNGRY;
         }
         self.judge(&submit, devid)
+    }
+
+    fn read_unlink(&mut self, unlink: &CmdUnlink, devid: u32) -> Answer {
+        if CmdUnlink::has_dirty_padding(&self.head) {
+            self.break_with(Break::Padding)
+        } else if unlink.devid != devid {
+            self.break_with(Break::Devid)
+        } else {
+            self.unlink(unlink)
+        }
     }
 
     fn check_submit(&self, submit: &CmdSubmit) -> Result<(), Break> {

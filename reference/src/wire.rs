@@ -60,7 +60,7 @@ pub struct CmdSubmit {
     pub setup: [u8; 8],
 }
 
-/// Only the two seqnums have an effect.
+/// What isn't here is padding, as are direction and ep: all 0.
 #[derive(Clone, Copy, Debug, Default, PartialEq, Eq)]
 pub struct CmdUnlink {
     pub seqnum: u32,
@@ -138,6 +138,12 @@ impl CmdUnlink {
             ep: be32(header, 0x10),
             unlink_seqnum: be32(header, 0x14),
         }
+    }
+
+    /// Whether a byte isn't 0 that has to be: of direction or ep, or after unlink_seqnum.
+    pub fn has_dirty_padding(header: &[u8]) -> bool {
+        let mut padding = (0x0c..0x14).chain(0x18..HEADER_SIZE);
+        padding.any(|offset| header[offset] != 0)
     }
 
     pub fn header(&self) -> [u8; HEADER_SIZE] {
@@ -352,6 +358,16 @@ mod tests {
         assert_eq!(unlink.unlink_seqnum, 0x1415_1617);
         assert_eq!(unlink.header()[4..24], header[4..24]);
         assert_eq!(unlink.header()[24..], [0; 24]);
+    }
+
+    #[test]
+    fn an_unlinks_padding_is_32_of_its_bytes() {
+        for offset in 0..HEADER_SIZE {
+            let mut header = CmdUnlink::default().header();
+            header[offset] = 1;
+            let padding = matches!(offset, 12..=19 | 24..=47);
+            assert_eq!(CmdUnlink::has_dirty_padding(&header), padding, "{offset}");
+        }
     }
 
     #[test]

@@ -30,7 +30,7 @@ const REFUSALS: [(u32, &str); 7] = [
     (sys::SHORT_DATA, "IN, data shorter than actual length"),
 ];
 
-const FAULTS: [(u32, &str); 7] = [
+const FAULTS: [(u32, &str); 9] = [
     (sys::BAD_VERSION, "version not 0x0111"),
     (sys::BAD_CODE, "code not 0x8005 or 0x8003"),
     (sys::BAD_COMMAND, "command not 1 or 2"),
@@ -38,6 +38,11 @@ const FAULTS: [(u32, &str); 7] = [
     (sys::BAD_LENGTH, "transfer_buffer_length above 16384"),
     (sys::BAD_PACKETS, "number_of_packets not 0 or 0xffffffff"),
     (sys::SEQNUM_PENDING, "submit's seqnum is pending"),
+    (
+        sys::DIRTY_PADDING,
+        "request's status, or unlink's padding, not 0",
+    ),
+    (sys::BAD_DEVID, "unlink's devid isn't the attached device's"),
 ];
 
 impl Refusal {
@@ -77,6 +82,10 @@ impl Fault {
     pub const BAD_PACKETS: Fault = Fault(sys::BAD_PACKETS);
     /// A submit has the seqnum of one that is pending.
     pub const SEQNUM_PENDING: Fault = Fault(sys::SEQNUM_PENDING);
+    /// A request's status isn't 0, or an unlink's direction or ep isn't, or a byte behind its unlink_seqnum.
+    pub const DIRTY_PADDING: Fault = Fault(sys::DIRTY_PADDING);
+    /// An unlink is for another device than the attached one.
+    pub const BAD_DEVID: Fault = Fault(sys::BAD_DEVID);
 
     /// Its number in the protocol's table.
     pub const fn number(self) -> u32 {

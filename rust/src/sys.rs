@@ -5,7 +5,7 @@
 //! compares every constant and the place and size of every field with the header's.
 
 /// The version of the face that is declared here.
-pub const VERSION: u32 = 2;
+pub const VERSION: u32 = 3;
 
 /// Devices of a table, at most.
 pub const MAX_DEVICES: usize = 16;
@@ -79,6 +79,10 @@ pub const BAD_LENGTH: u32 = 14;
 pub const BAD_PACKETS: u32 = 15;
 /// A fault: a submit's seqnum is pending.
 pub const SEQNUM_PENDING: u32 = 16;
+/// A fault: a request's status, or a byte of an unlink's padding, isn't 0.
+pub const DIRTY_PADDING: u32 = 17;
+/// A fault: an unlink's devid isn't the attached device's.
+pub const BAD_DEVID: u32 = 18;
 
 /// A part is of the header.
 pub const OF_HEADER: u32 = 0;
@@ -162,6 +166,8 @@ pub struct Header {
     pub transfer: Transfer,
     /// The SETUP packet.
     pub setup: [u8; SETUP_LEN],
+    /// Where the first byte of an unlink's padding stands that isn't 0; [`HEADER_LEN`] where each is.
+    pub dirty: usize,
 }
 
 /// The message in progress.

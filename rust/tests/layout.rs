@@ -44,6 +44,7 @@ constants! {
     HUNGRY LIST IMPORT SUBMIT ANSWER UNLINK BREAK REFUSED
     SHORT_BUFFER BAD_TABLE SESSION_CLOSED NOT_PENDING STATUS_ABOVE_0 ACTUAL_TOO_LONG SHORT_DATA
     BAD_VERSION BAD_CODE BAD_COMMAND BAD_DIRECTION BAD_LENGTH BAD_PACKETS SEQNUM_PENDING
+    DIRTY_PADDING BAD_DEVID
 }
 
 structs! {
@@ -54,7 +55,7 @@ structs! {
     }
     Table { devices count }
     Transfer { seqnum direction ep flags length start packets interval }
-    Header { command devid transfer setup }
+    Header { command devid transfer setup dirty }
     Progress { head filled header body }
     Counts { accepted returned unlinked dropped }
     Link { phase devid progress counts }

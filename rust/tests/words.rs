@@ -29,6 +29,8 @@ fn refusals_and_faults_in_words() {
         "broken 14: transfer_buffer_length above 16384",
         "broken 15: number_of_packets not 0 or 0xffffffff",
         "broken 16: submit's seqnum is pending",
+        "broken 17: request's status, or unlink's padding, not 0",
+        "broken 18: unlink's devid isn't the attached device's",
     ];
     for (number, words) in (10..).zip(faults) {
         assert_eq!(Fault::from(number).to_string(), words);
@@ -44,7 +46,7 @@ fn numbers_without_words_are_printed_too() {
             format!("refused {number}")
         );
     }
-    for number in [0, 1, 9, 17, u32::MAX] {
+    for number in [0, 1, 9, 19, u32::MAX] {
         assert_eq!(Fault::from(number).to_string(), format!("broken {number}"));
     }
 }

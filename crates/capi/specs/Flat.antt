@@ -161,7 +161,7 @@ bytesAt p header payload = take (p .length) (drop (p .at) (cond (eqb (p .slice) 
 
 -- It rises with each change of a function, a struct or an answer.
 abbrev pub FACE-VERSION : ℕ
-FACE-VERSION = 2
+FACE-VERSION = 3
 
 abbrev pub flatLimits : FlatLimits
 flatLimits =

@@ -7,10 +7,10 @@ use lib.ListN.{length, take, drop, replicate, length-append, length-drop, drop-o
 use lib.Seq.{take-at, drop-at, drop-drop, length-take-le}
 use Rattle.wire.specs.Codes
 use Rattle.messages.specs.Messages.{requestOf, busidOf, headerOf}
+use Rattle.messages.proofs.Headers.{request-stays}
 use Rattle.limits.specs.Limits
 use Rattle.model.specs.State.{partly, headed}
 use Rattle.ground.proofs.Lists.{part-stays}
-use Rattle.wire.proofs.Heads.{field-stays}
 use Rattle.links.specs.Links.{Parts, messageOf, during, Padded}
 use Rattle.links.specs.declared.link.Progress.{Progress}
 use Rattle.links.proofs.Views.{message-partly}
@@ -69,9 +69,7 @@ module _ (p : Progress) (size : length (p .head) ≡ Codes.HEADER-LEN) where
     pub request-front : Codes.OP-LEN ≤ p .filled + length xs → requestOf (came p ++ xs) ≡ requestOf (grown p xs .head)
     request-front h =
         let rest = drop (p .filled + length xs) (p .head) in
-        let v = field-stays 2 Codes.VERSION-AT (came p ++ xs) rest (rw grown-length (omega arith)) in
-        let c = field-stays 2 Codes.CODE-AT (came p ++ xs) rest (rw grown-length (omega arith)) in
-        (λ i. record { version = sym v i; code = sym c i }) ∙ ap requestOf (sym grown-head)
+        sym (request-stays (came p ++ xs) rest (rw grown-length (omega arith))) ∙ ap requestOf (sym grown-head)
 
     pub busid-front : Codes.OP-LEN + Codes.BUSID-LEN ≤ p .filled + length xs → busidOf (came p ++ xs) ≡ busidOf (grown p xs .head)
     busid-front h =

@@ -25,7 +25,6 @@ use Rattle.ground.specs.Rows.{Clear}
 use Rattle.ground.specs.Tests.{first, by-first}
 use Rattle.verdicts.specs.Verdicts
 use Rattle.verdicts.specs.declared.verdict.Fault.{Fault}
-use Rattle.ground.proofs.Match.{clear}
 use Rattle.ground.proofs.Cases.{second}
 use Rattle.verdicts.proofs.Tables.{iff-refl, header-match}
 use Rattle.model.specs.State.{headed, Sess}
@@ -52,18 +51,18 @@ use Rattle.feeding.proofs.Pieces.{Feeds, feeds, feeds-data, feeds-on}
 -- ## A header's tests
 
 -- what was looked up serves them: only of a submit do they ask whether a seqnum is pending
-header-tests : (h : Header) (us : List Urb) → headerTestsOf h us ≡ Verdicts.headerTests h (lookFor us (keyFor h) .found)
-header-tests h us = at (eqb (h .command) Codes.CMD-SUBMIT) refl
+header-tests : (h : Header) (devid : ℕ) (us : List Urb) → headerTestsOf h devid us ≡ Verdicts.headerTests h devid (lookFor us (keyFor h) .found)
+header-tests h devid us = at (eqb (h .command) Codes.CMD-SUBMIT) refl
   where
-    at : (c : Bool) → eqb (h .command) Codes.CMD-SUBMIT ≡ c → headerTestsOf h us ≡ Verdicts.headerTests h (lookFor us (keyFor h) .found)
+    at : (c : Bool) → eqb (h .command) Codes.CMD-SUBMIT ≡ c → headerTestsOf h devid us ≡ Verdicts.headerTests h devid (lookFor us (keyFor h) .found)
     at true e = rw (e, look-found seqnumOf (h .transfer .seqnum) us)
     at false e = rw e
 
-module _ (h : Header) (us : List Urb) (f : first (headerTestsOf h us) ≡ none) where
-  passed : Clear (Verdicts.headerRows h (found (findBy seqnumOf (h .transfer .seqnum) us) ≡ true))
+module _ (h : Header) (devid : ℕ) (us : List Urb) (f : first (headerTestsOf h devid us) ≡ none) where
+  passed : Clear (Verdicts.headerRows h devid (found (findBy seqnumOf (h .transfer .seqnum) us) ≡ true) (ltb (h .dirty) Codes.HEADER-LEN ≡ true))
   passed =
       let taken = found (findBy seqnumOf (h .transfer .seqnum) us) in
-      clear (headerTestsOf h us) (Verdicts.headerRows h (taken ≡ true)) (header-match h taken (taken ≡ true) iff-refl) f
+      header-match h devid taken (taken ≡ true) (ltb (h .dirty) Codes.HEADER-LEN ≡ true) iff-refl iff-refl .1 f
 
   -- what passed and is no submit is an unlink, and asks for the seqnum that it names
   unlink-key : (h .command ≡ Codes.CMD-SUBMIT → ⊥) → keyFor h ≡ Seqnum (unlinkSeqnum h)
@@ -219,16 +218,16 @@ module _ (t : Table) (k : Link) (l : Pending) (a : Attached (whole t k l)) (v : 
       follows : wholeHeader d (q .header) ≡ hungry → (b : Buffers) → fedFrom 0 (during s (messageOf p)) b piece ≡ fedFrom end d b (drop end piece)
       follows j b = part-goes-on s piece 0 b end (header-calm p size s away h) made end (omega arith) m (judged ∙ j)
 
-      breaks-feeds : (f : Fault) → first (headerTestsOf (q .header) (listOf l)) ≡ some f → Fed 0 p (brokenPlan k (l .count) f end)
+      breaks-feeds : (f : Fault) → first (headerTestsOf (q .header) (k .devid) (listOf l)) ≡ some f → Fed 0 p (brokenPlan k (l .count) f end)
       breaks-feeds f e =
           feeds t k l 0 p piece (broken-says t k l (headed (q .header) 0) f end (a .0) v z) (λ _. broken-padded k (l .count) f end)
           (said (breaks d f) (header-bad d (q .header) f e) refl)
 
-      module _ (f : first (headerTestsOf (q .header) (listOf l)) ≡ none) where
+      module _ (f : first (headerTestsOf (q .header) (k .devid) (listOf l)) ≡ none) where
         unlink-feeds : (q .header .command ≡ Codes.CMD-SUBMIT → ⊥) → Fed 0 p (unlinkedPlan k (l .count) (q .header) look end)
         unlink-feeds n =
             let u = unlinkSeqnum (q .header) in
-            rw (unlink-key (q .header) (listOf l) f n)
+            rw (unlink-key (q .header) (k .devid) (listOf l) f n)
             (feeds t k l 0 p piece (unlinked-says t k l (q .header) end a v z)
             (λ _. unlinked-padded k (l .count) (q .header) (lookBy seqnumOf u (listOf l)) end)
             (said _ (header-unlink d (q .header) f n) (unlink-said (q .header .transfer .seqnum) (findBy seqnumOf u (listOf l)))))
@@ -244,17 +243,17 @@ module _ (t : Table) (k : Link) (l : Pending) (a : Attached (whole t k l)) (v : 
             by false o =
                 let n : bodyLen (q .header) ≡ 0 → ⊥ = eqb-false _ _ o in
                 feeds-on t k l 0 p piece end q
-                (body-feeds end q m refl (omega arith) (short-body (q .header) (listOf l) f e))
+                (body-feeds end q m refl (omega arith) (short-body (q .header) (k .devid) (listOf l) f e))
                 (λ _. read-padded (q .header) 0)
                 (follows (header-body d (q .header) f e (omega arith)))
 
       header-feeds : Fed 0 p (headerPlan k (l .count) q look end (length piece))
       header-feeds =
-          let e = ap first (header-tests (q .header) (listOf l)) in
-          by-first (Fed 0 p) (first (Verdicts.headerTests (q .header) (look .found)))
+          let e = ap first (header-tests (q .header) (k .devid) (listOf l)) in
+          by-first (Fed 0 p) (first (Verdicts.headerTests (q .header) (k .devid) (look .found)))
           (λ f y. breaks-feeds f (e ∙ y)) (λ y. by (e ∙ y) (eqb (q .header .command) Codes.CMD-SUBMIT) refl)
         where
-          by : first (headerTestsOf (q .header) (listOf l)) ≡ none → (c : Bool) → eqb (q .header .command) Codes.CMD-SUBMIT ≡ c
+          by : first (headerTestsOf (q .header) (k .devid) (listOf l)) ≡ none → (c : Bool) → eqb (q .header .command) Codes.CMD-SUBMIT ≡ c
               → Fed 0 p (cond c (submitPlan k (l .count) q end (length piece)) (unlinkedPlan k (l .count) (q .header) look end))
           by f true c = submit-feeds f (eqb-true _ _ c)
           by f false c = unlink-feeds f (eqb-false _ _ c)

@@ -112,11 +112,11 @@ module _ (s : Sess) (w : s .link .phase ≡ Limits.WAITING → ⊥) where
       ∙ ap isHungry (wait-body (holding s (headed h (n + length ys))) w h (n + length ys) refl (omega arith) (omega arith))
 
 module _ (s : Sess) (h : Header) where
-  pub header-bad : (f : Fault) → first (headerTestsOf h (s .pend)) ≡ some f → wholeHeader s h ≡ breaks s f
+  pub header-bad : (f : Fault) → first (headerTestsOf h (s .link .devid) (s .pend)) ≡ some f → wholeHeader s h ≡ breaks s f
   unfolding wholeHeader decide
   header-bad f e = rw e
 
-  module _ (f : first (headerTestsOf h (s .pend)) ≡ none) where
+  module _ (f : first (headerTestsOf h (s .link .devid) (s .pend)) ≡ none) where
     pub header-unlink : (h .command ≡ Codes.CMD-SUBMIT → ⊥)
         → wholeHeader s h ≡ unlinks (h .transfer .seqnum) (findBy seqnumOf (unlinkSeqnum h) (s .pend))
     unfolding wholeHeader decide pick

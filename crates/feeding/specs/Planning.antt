@@ -42,7 +42,7 @@ submitPlan k n p at len = cond (eqb (bodyLen (p .header)) 0) (submittedPlan k n 
 -- A header that was just read, by what was looked up for it.
 abbrev pub headerPlan : Link → ℕ → Progress → Look → (at len : ℕ) → Plan
 headerPlan k n p look at len =
-    decide (first (headerTests (p .header) (look .found))) (λ f. brokenPlan k n f at)
+    decide (first (headerTests (p .header) (k .devid) (look .found))) (λ f. brokenPlan k n f at)
     (cond (eqb (p .header .command) Codes.CMD-SUBMIT) (submitPlan k n p at len) (unlinkedPlan k n (p .header) look at))
 
 abbrev pub attachedPlan : Link → ℕ → Asked → Look → (len : ℕ) → Plan

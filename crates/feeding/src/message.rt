@@ -80,7 +80,7 @@ fn plan_header(link: Link, pending: usize, p: Progress, look: Look, at: usize, l
     ensures { λ r. ⌜ r ≡ headerPlan link pending p look at len ⌝ }
 {
     let h = p.header;
-    let reading = header_fault(h, look.found);
+    let reading = header_fault(h, link.devid, look.found);
     match reading {
         Reading::Faulty(fault) => plan_broken(link, pending, fault, at),
         Reading::Sound => {

@@ -4,7 +4,7 @@ use native.Mathlib.Omega.{arith}
 use mathlib.Core.Path.{_≡_, refl, sym, _∙_}
 use mathlib.Core.Logic.{_↔_, _⊎_, inl, inr, ⊎-elim}
 use mathlib.Core.Bool.{Bool, true, false, cond, _||_, true≢false}
-use mathlib.Core.List.{List, [], _∷_}
+use mathlib.Core.List.{List, [], _∷_, _++_}
 use mathlib.Core.Option.{none, some}
 use lib.Dec.{eqb}
 use borrow.Author.Tests.{eqb-true, eqb-false}
@@ -16,29 +16,39 @@ no-answer : {A B : Type 0} {a : A} → none ≡ some a → B
 no-answer {a = a} h = absurd (let z : _≡_ {A = ℕ} 0 1 = cc in omega arith)
 
 module _ {A : Type 0} where
+  -- what the first test that holds answers is what the rows give
+  abbrev pub Decides : List (Test A) → List (Row A) → Type 0
+  Decides ts rs = ((a : A) → first ts ≡ some a → Gives rs a) × (first ts ≡ none → Clear rs)
+
+  -- a test and its row, before tables of which that holds where the test fails
+  pub before : (t : Test A) (r : Row A) (ts : List (Test A)) (rs : List (Row A)) → t .answer ≡ r .answer → (t .holds ≡ true) ↔ r .when
+      → (t .holds ≡ false → Decides ts rs) → Decides (t ∷ ts) (r ∷ rs)
+  before t r ts rs e i k = ((λ a h. some-said a (t .holds) refl h), λ h. none-said (t .holds) refl h)
+    where
+      some-said : (a : A) (c : Bool) → t .holds ≡ c → cond c (some (t .answer)) (first ts) ≡ some a → Gives (r ∷ rs) a
+      some-said a true h p = inl (i .0 h, let q : a ≡ t .answer = cc in q ∙ e)
+      some-said a false h p = inr (refutes i h, k h .0 a p)
+
+      none-said : (c : Bool) → t .holds ≡ c → cond c (some (t .answer)) (first ts) ≡ none → Clear (r ∷ rs)
+      none-said true h p = no-answer (sym p)
+      none-said false h p = (refutes i h, k h .1 p)
+
   -- row by row, each where none before it holds; rows that are left over hold never
   abbrev pub Match : List (Test A) → List (Row A) → Type 0
   Match [] rs = Clear rs
   Match (t ∷ ts) [] = ⊥
   Match (t ∷ ts) (r ∷ rs) = (t .answer ≡ r .answer) × ((t .holds ≡ true) ↔ r .when) × (t .holds ≡ false → Match ts rs)
 
+  pub decides : (ts : List (Test A)) (rs : List (Row A)) → Match ts rs → Decides ts rs
+  decides [] rs m = ((λ a h. no-answer h), λ _. m)
+  decides (t ∷ ts) [] m = absurd m
+  decides (t ∷ ts) (r ∷ rs) m = before t r ts rs (m .0) (m .1) (λ e. decides ts rs (m .2 e))
+
   pub gives : (ts : List (Test A)) (rs : List (Row A)) → Match ts rs → (a : A) → first ts ≡ some a → Gives rs a
-  gives [] rs m a h = no-answer h
-  gives (t ∷ ts) [] m a h = absurd m
-  gives (t ∷ ts) (r ∷ rs) m a h = at (t .holds) refl h (λ e p. gives ts rs (m .2 e) a p)
-    where
-      at : (c : Bool) → t .holds ≡ c → cond c (some (t .answer)) (first ts) ≡ some a → (t .holds ≡ false → first ts ≡ some a → Gives rs a) → Gives (r ∷ rs) a
-      at true e p k = inl (m .1 .0 e, let q : a ≡ t .answer = cc in q ∙ m .0)
-      at false e p k = inr (refutes (m .1) e, k e p)
+  gives ts rs m = decides ts rs m .0
 
   pub clear : (ts : List (Test A)) (rs : List (Row A)) → Match ts rs → first ts ≡ none → Clear rs
-  clear [] rs m h = m
-  clear (t ∷ ts) [] m h = absurd m
-  clear (t ∷ ts) (r ∷ rs) m h = at (t .holds) refl h (λ e p. clear ts rs (m .2 e) p)
-    where
-      at : (c : Bool) → t .holds ≡ c → cond c (some (t .answer)) (first ts) ≡ none → (t .holds ≡ false → first ts ≡ none → Clear rs) → Clear (r ∷ rs)
-      at true e p k = no-answer (sym p)
-      at false e p k = (refutes (m .1) e, k e p)
+  clear ts rs m = decides ts rs m .1
 
   -- ## A table that is asked only where P holds, and rows that each say P
 
@@ -59,9 +69,34 @@ module _ {A : Type 0} where
   always p (t ∷ ts) [] m = m
   always p (t ∷ ts) (r ∷ rs) m = (m .0, ((λ h. (p, m .1 .0 h)), λ w. m .1 .1 (w .1)), λ e. always p ts rs (m .2 e))
 
-  pub guarded-match : {P : Type 0} (s : Bool) → (s ≡ true) ↔ P → (ts : List (Test A)) (rs : List (Row A)) → Match ts rs → Match (cond s ts []) (guarded P rs)
-  guarded-match true e ts rs m = always (e .0 refl) ts rs m
-  guarded-match false e ts rs m = never (refutes e refl) rs
+  -- ## Two tables of which one is asked: rows that never hold are passed over
+
+  gives-front : (rs qs : List (Row A)) (a : A) → Gives rs a → Gives (rs ++ qs) a
+  gives-front [] qs a g = absurd g
+  gives-front (r ∷ rs) qs a g = ⊎-elim inl (λ p. inr (p .0, gives-front rs qs a (p .1))) g
+
+  gives-behind : (rs qs : List (Row A)) (a : A) → Clear rs → Gives qs a → Gives (rs ++ qs) a
+  gives-behind [] qs a y g = g
+  gives-behind (r ∷ rs) qs a y g = inr (y .0, gives-behind rs qs a (y .1) g)
+
+  clear-both : (rs qs : List (Row A)) → Clear rs → Clear qs → Clear (rs ++ qs)
+  clear-both [] qs y z = z
+  clear-both (r ∷ rs) qs y z = (y .0, clear-both rs qs (y .1) z)
+
+  pub either-match : (P Q : Type 0) (s : Bool) → (s ≡ true → P × (Q → ⊥)) → (s ≡ false → (P → ⊥) × Q)
+      → (ts : List (Test A)) (rs : List (Row A)) → Match ts rs → (us : List (Test A)) (qs : List (Row A)) → Match us qs
+      → Decides (cond s ts us) (guarded P rs ++ guarded Q qs)
+  either-match P Q true p q ts rs m us qs n =
+      let d = decides ts (guarded P rs) (always (p refl .0) ts rs m) in (
+        λ a h. gives-front (guarded P rs) (guarded Q qs) a (d .0 a h),
+        λ h. clear-both (guarded P rs) (guarded Q qs) (d .1 h) (never (p refl .1) qs),
+      )
+  either-match P Q false p q ts rs m us qs n =
+      let d = decides us (guarded Q qs) (always (q refl .1) us qs n) in
+      let y = never (q refl .0) rs in (
+        λ a h. gives-behind (guarded P rs) (guarded Q qs) a y (d .0 a h),
+        λ h. clear-both (guarded P rs) (guarded Q qs) y (d .1 h),
+      )
 
 -- ## One answer
 

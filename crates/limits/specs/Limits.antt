@@ -106,3 +106,9 @@ BAD-PACKETS = 15
 
 abbrev pub SEQNUM-PENDING : ℕ
 SEQNUM-PENDING = 16
+
+abbrev pub DIRTY-PADDING : ℕ
+DIRTY-PADDING = 17
+
+abbrev pub BAD-DEVID : ℕ
+BAD-DEVID = 18

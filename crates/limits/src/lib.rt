@@ -56,3 +56,7 @@ pub const BAD_LENGTH: u32 = 14;
 pub const BAD_PACKETS: u32 = 15;
 
 pub const SEQNUM_PENDING: u32 = 16;
+
+pub const DIRTY_PADDING: u32 = 17;
+
+pub const BAD_DEVID: u32 = 18;

@@ -1,2 +1,3 @@
 -- What the fields of a header say, by the message's bytes.
 pub mod Headers
+pub mod Padding

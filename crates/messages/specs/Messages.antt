@@ -1,9 +1,11 @@
 -- What each message is made of (PROTOCOL.md, 4).
-use Prim.Native.Nat.{ℕ}
+use Prim.Native.Nat.{ℕ, zero, suc, _-_, _≤_, _<_}
+use mathlib.Core.Path.{_≡_}
 use mathlib.Core.Bool.{cond}
 use mathlib.Core.List.{List, [], _∷_}
-use lib.Dec.{eqb}
-use lib.ListN.{take, drop, replicate}
+use mathlib.Core.Logic.{_⊎_}
+use lib.Dec.{eqb, ltb}
+use lib.ListN.{take, drop, getD, replicate}
 use Rattle.wire.specs.Codes
 use Rattle.wire.specs.Fields.{u16, u32, pack, field}
 use Rattle.messages.specs.declared.request.Request.{Request}
@@ -14,9 +16,8 @@ use Rattle.messages.specs.declared.reply.RetUnlink.{RetUnlink}
 
 -- ## Read: requests
 
--- A request's version and code; its status is ignored.
 abbrev pub requestOf : List ℕ → Request
-requestOf m = record { version = field 2 Codes.VERSION-AT m; code = field 2 Codes.CODE-AT m }
+requestOf m = record { version = field 2 Codes.VERSION-AT m; code = field 2 Codes.CODE-AT m; status = field 4 Codes.OP-STATUS-AT m }
 
 -- The busid of an import request, all its bytes.
 abbrev pub busidOf : List ℕ → List ℕ
@@ -40,8 +41,28 @@ transferOf m =
       interval = field 4 Codes.INTERVAL-AT m;
     }
 
+-- The first of n places from i on where the byte isn't 0; the place behind them where it is 0 at each.
+abbrev pub firstSet : (n i : ℕ) → List ℕ → ℕ
+firstSet zero i m = i
+firstSet (suc n) i m = cond (eqb (getD m i 0) 0) (firstSet n (suc i) m) i
+
+-- An unlink's padding is its direction and ep, and all that stands behind unlink_seqnum. Where the first byte of it stands that isn't 0;
+-- behind the header where each is.
+abbrev pub dirtyOf : List ℕ → ℕ
+dirtyOf m =
+    let a = firstSet (Codes.UNLINK-SEQNUM-AT - Codes.DIRECTION-AT) Codes.DIRECTION-AT m in
+    cond (ltb a Codes.UNLINK-SEQNUM-AT) a (firstSet (Codes.HEADER-LEN - Codes.LENGTH-AT) Codes.LENGTH-AT m)
+
 abbrev pub headerOf : List ℕ → Header
-headerOf m = record { command = field 4 Codes.COMMAND-AT m; devid = field 4 Codes.DEVID-AT m; transfer = transferOf m; setup = setupOf m }
+headerOf m =
+    record { command = field 4 Codes.COMMAND-AT m; devid = field 4 Codes.DEVID-AT m; transfer = transferOf m; setup = setupOf m; dirty = dirtyOf m }
+
+-- The same padding, byte by byte: some byte of it isn't 0.
+abbrev pub Padding : ℕ → Type 0
+Padding i = ((Codes.DIRECTION-AT ≤ i) × (i < Codes.UNLINK-SEQNUM-AT)) ⊎ ((Codes.LENGTH-AT ≤ i) × (i < Codes.HEADER-LEN))
+
+abbrev pub Dirty : List ℕ → Type 0
+Dirty m = (i : ℕ) × Padding i × (getD m i 0 ≡ 0 → ⊥)
 
 -- What stands in the place of a header while none is read: zeros.
 abbrev pub blankHeader : Header
@@ -51,14 +72,14 @@ blankHeader =
       devid = 0;
       transfer = record { seqnum = 0; direction = 0; ep = 0; flags = 0; length = 0; start = 0; packets = 0; interval = 0 };
       setup = replicate Codes.SETUP-LEN 0;
+      dirty = 0;
     }
 
 -- How many bytes follow the 48 of a submit: its data, where it is OUT.
 abbrev pub bodyLen : Header → ℕ
 bodyLen h = cond (eqb (h .transfer .direction) Codes.DIR-OUT) (h .transfer .length) 0
 
--- The seqnum of the submit that an unlink names stands where a submit has its flags; an unlink's devid, direction, ep and last
--- 24 bytes are ignored.
+-- The seqnum of the submit that an unlink names stands where a submit has its flags.
 abbrev pub unlinkSeqnum : Header → ℕ
 unlinkSeqnum h = h .transfer .flags
 

@@ -13,6 +13,8 @@ use lib.Seq.{length-take-le, take-all, take-at, take-take, take-append-le, take-
 use borrow.Author.Tests.{eq-eqb, ne-eqb}
 use Rattle.wire.specs.Codes
 use Rattle.messages.specs.Messages.{requestOf, busidOf, headerOf}
+use Rattle.messages.specs.declared.request.Request.{Request}
+use Rattle.messages.proofs.Headers.{request-stays}
 use Rattle.exports.specs.Devices.{noDevice, devicesOf}
 use Rattle.exports.specs.declared.device.Table.{Table}
 use Rattle.tables.proofs.Good.{good-iff}
@@ -40,11 +42,10 @@ use Rattle.model.specs.Claims.{RightMessage, byPhase, RightFeed, headerF
 use Rattle.model.specs.Claims.{AttachesBy, Attaches, Holds}
 use Rattle.model.specs.Corollaries.{sessionAfter, bookAfter, sessionFrom, bookFrom, OpenGives, OpenIff, ByTable, RefusedIff, TicketSought, TicketFound}
 use Rattle.model.specs.Corollaries.{RefusedLate, LateTicket, Ended, EndedTicket, CancelledTicket, Sent, CompletionSent, AttachedTo, Ready, Verdict}
-use Rattle.model.specs.Corollaries.{AcceptIff, AnsweredStays, requestSize, messageSize, UpTo, Reaches, Consumption, EmptyPiece}
+use Rattle.model.specs.Corollaries.{AcceptIff, UnlinkVerdict, UnlinkIff, AnsweredStays, requestSize, messageSize, UpTo, Reaches, Consumption, EmptyPiece}
 use Rattle.ground.proofs.Cases.{differ, not-less}
 use Rattle.model.proofs.Facts.{grown-refl, grown-trans, ended-stays, mem-to, mem-from}
 use Rattle.model.proofs.Tables.{feed-match}
-use Rattle.wire.proofs.Heads.{field-stays}
 use Rattle.model.proofs.Runs.{every-run}
 use Rattle.model.proofs.Cutting
 
@@ -297,7 +298,7 @@ code-same m r h l =
     let n = Codes.HEADER-LEN - length m in
     let w : Codes.HEADER-LEN ≡ length m + n = omega arith in
     let e : header (m ++ r) ≡ m ++ take n r = ap (λ k. take k (m ++ r)) w ∙ take-append-add m r n in
-    ap (λ y. requestOf y .code) e ∙ field-stays 2 Codes.CODE-AT m (take n r) (omega arith)
+    ap (λ y. requestOf y .code) e ∙ ap (λ (q : Request). q .code) (request-stays m (take n r) h)
     ∙ ap (λ y. requestOf y .code) (sym (take-all Codes.HEADER-LEN m l))
 
 -- by the message in progress and the piece
@@ -369,7 +370,7 @@ module _ (q p : List ℕ) (k : ℕ) (l : k ≤ length p) where
   message-reaches devid is (answer n st) a r = whole-read (r .0) (r .2)
   message-reaches devid is (unlink n st o) a r =
       let e = header-read (omega (arith, r .0)) in
-      up-to Codes.HEADER-LEN _ (r .0) (unlink-size (q ++ p) (ap (λ m. headerOf m .command) e ∙ r .1))
+      up-to Codes.HEADER-LEN _ (r .0) (unlink-size (q ++ p) (ap (λ m. headerOf m .command) e ∙ r .2))
   message-reaches devid is (break f ts) a r = up-to Codes.HEADER-LEN _ (r .0) refl
 
   done-reaches : (c : Bool) (t : Table) (devid : ℕ) (is : List Item) (e : Event) → (e ≡ hungry → k ≡ length p)
@@ -471,7 +472,7 @@ attached-to t cs h =
 
 module _ (devid : ℕ) (is : List Item) (m : List ℕ) where
   abbrev faults : List (Row Fault)
-  faults = headerRowsBy is (header m)
+  faults = headerRowsBy devid is (header m)
 
   abbrev statuses : List (Row ℕ)
   statuses = submitRowsBy devid is (header m)
@@ -506,17 +507,23 @@ module _ (devid : ℕ) (is : List Item) (m : List ℕ) where
         one = inr (inr (f, ts, refl, l));
       }
 
--- of a piece that begins with it
-module _ (devid : ℕ) (is : List Item) (m rest : List ℕ) (command : headerOf (header m) .command ≡ Codes.CMD-SUBMIT)
-    (whole : length m ≡ messageLen (header m)) where
+-- of a piece that begins with a whole message
+module _ (m rest : List ℕ) (long : Codes.HEADER-LEN ≤ length m) where
   head-same : header (m ++ rest) ≡ header m
-  head-same = take-append-le Codes.HEADER-LEN m rest (omega arith)
+  head-same = take-append-le Codes.HEADER-LEN m rest long
 
   taken-same : (k : ℕ) → Codes.HEADER-LEN ≤ k → header (take k (m ++ rest)) ≡ header m
   taken-same k h = take-take Codes.HEADER-LEN k (m ++ rest) h ∙ head-same
 
+module _ (devid : ℕ) (is : List Item) (m rest : List ℕ) (command : headerOf (header m) .command ≡ Codes.CMD-SUBMIT)
+    (whole : length m ≡ messageLen (header m)) where
+  submit-long : Codes.HEADER-LEN ≤ length m
+  submit-long = omega (arith, whole)
+
   size-same : messageSize (m ++ rest) ≡ length m
-  size-same = submit-size (m ++ rest) (ap (λ h. headerOf h .command) head-same ∙ command) ∙ ap messageLen head-same ∙ sym whole
+  size-same =
+      let e = head-same m rest submit-long in
+      submit-size (m ++ rest) (ap (λ h. headerOf h .command) e ∙ command) ∙ ap messageLen e ∙ sym whole
 
   verdict : (e : Event) (k : ℕ) → MessageReaches [] (m ++ rest) (done e) k → RightMessage devid is (take k (m ++ rest)) e → Verdict devid is m (done e) k
   verdict hungry k c r = absurd (omega (arith, c .0, size-same, length-append m rest))
@@ -524,21 +531,57 @@ module _ (devid : ℕ) (is : List Item) (m rest : List ℕ) (command : headerOf 
   verdict (import st) k c r = absurd r
   verdict (submit u) k c r =
       let l : k ≡ length m = omega (arith, c .1, size-same) in
-      let e = taken-same k (omega arith) in
+      let e = taken-same m rest submit-long k (omega arith) in
       accepts devid is m u k l (rw e at (r .1)) (rw e at (r .3)) (rw e at (r .4))
   verdict (answer q st) k c r =
       let l : k ≡ length m = omega (arith, c .1, size-same) in
-      let e = taken-same k (omega arith) in
+      let e = taken-same m rest submit-long k (omega arith) in
       answers devid is m q st k l (rw e at (r .1)) (rw e at (r .3)) (rw e at (r .4))
   verdict (unlink q st o) k c r =
       let l : k ≡ length m = omega (arith, c .1, size-same) in
-      absurd (omega (arith, command, rw (taken-same k (omega arith)) at (r .1)))
+      absurd (omega (arith, command, rw (taken-same m rest submit-long k (omega arith)) at (r .2)))
   verdict (break f ts) k c r =
       let l : k ≡ Codes.HEADER-LEN = omega (arith, c .1) in
-      breaks devid is m f ts k l (rw (taken-same k (omega arith)) at (r .1)) (r .2)
+      breaks devid is m f ts k l (rw (taken-same m rest submit-long k (omega arith)) at (r .1)) (r .2)
 
-feed-clear : (s : Sess) (b : Book) (lent : Buffers) (m : List ℕ) → Agrees s b → Ready s b lent m → Clear (feedRowsBy b lent)
-feed-clear s b lent m a g = (
+module _ (devid : ℕ) (is : List Item) (m rest : List ℕ) (command : headerOf (header m) .command ≡ Codes.CMD-UNLINK)
+    (whole : length m ≡ Codes.HEADER-LEN) where
+  unlink-long : Codes.HEADER-LEN ≤ length m
+  unlink-long = omega (arith, whole)
+
+  unlink-same : messageSize (m ++ rest) ≡ Codes.HEADER-LEN
+  unlink-same = unlink-size (m ++ rest) (ap (λ h. headerOf h .command) (head-same m rest unlink-long) ∙ command)
+
+  no-submit : {A : Type 0} (k : ℕ) → k ≡ Codes.HEADER-LEN → headerOf (header (take k (m ++ rest))) .command ≡ Codes.CMD-SUBMIT → A
+  no-submit k l c = absurd (omega (arith, command, rw (taken-same m rest unlink-long k (omega arith)) at c))
+
+  unlink-verdict : (e : Event) (k : ℕ) → MessageReaches [] (m ++ rest) (done e) k → RightMessage devid is (take k (m ++ rest)) e
+      → UnlinkVerdict devid is m (done e) k
+  unlink-verdict hungry k c r = absurd (omega (arith, c .0, unlink-same, length-append m rest))
+  unlink-verdict list k c r = absurd r
+  unlink-verdict (import st) k c r = absurd r
+  unlink-verdict (submit u) k c r = no-submit k (omega (arith, c .1, unlink-same)) (r .2)
+  unlink-verdict (answer q st) k c r = no-submit k (omega (arith, c .1, unlink-same)) (r .2)
+  unlink-verdict (unlink q st o) k c r =
+      let l : k ≡ Codes.HEADER-LEN = omega (arith, c .1, unlink-same) in
+      let y : Clear (faults devid is m) = rw (taken-same m rest unlink-long k (omega arith)) at (r .1) in
+      record {
+        broken = λ f ts. ((λ h. differ (cc)), λ h. not-clear (faults devid is m) f y (h .0));
+        answered = ((λ _. y), λ _. (q, st, o, refl));
+        whole = l;
+      }
+  unlink-verdict (break f ts) k c r =
+      let l : k ≡ Codes.HEADER-LEN = omega (arith, c .1) in
+      let g : Gives (faults devid is m) f = rw (taken-same m rest unlink-long k (omega arith)) at (r .1) in
+      let e = r .2 in
+      record {
+        broken = λ n us. ((λ h. ((let i : n ≡ f = cc in rw i g), cc)), λ h. cc (one-answer (faults devid is m) f n g (h .0), h .1));
+        answered = ((λ h. let d = h .3 in differ (cc)), λ y. not-clear (faults devid is m) f y g);
+        whole = l;
+      }
+
+feed-clear : (s : Sess) (b : Book) (lent : Buffers) → Agrees s b → Ready s b lent → Clear (feedRowsBy b lent)
+feed-clear s b lent a g = (
   (λ h. true≢false (sym h ∙ sym (a .closes) ∙ ap (λ p. eqb p Limits.CLOSED) (g .attached))),
   (
     ⊎-elim (λ h. omega (arith, g .work)) (λ h. omega (arith, g .reply)),
@@ -546,26 +589,34 @@ feed-clear s b lent m a g = (
   ),
 )
 
-accepts-by : (s : Sess) (b : Book) (lent : Buffers) (m rest : List ℕ) → Agrees s b → Ready s b lent m → RightFeed s b (m ++ rest) lent
-    → let r = feedOf s lent (m ++ rest) in Verdict (s .link .devid) (b .items) m (r .event) (r .consumed)
-accepts-by s b lent m rest a g h =
-    let p = m ++ rest in
+-- what is right of every event of a message that reaches so far is right of the event that a feed gives
+ready-feed : (s : Sess) (b : Book) (lent : Buffers) (p : List ℕ) → Agrees s b → Ready s b lent → RightFeed s b p lent → (P : Outcome Event → ℕ → Type 0)
+    → ((e : Event) (k : ℕ) → MessageReaches [] p (done e) k → RightMessage (s .link .devid) (b .items) (take k p) e → P (done e) k)
+    → let r = feedOf s lent p in P (r .event) (r .consumed)
+ready-feed s b lent p a g h P f =
     let r = feedOf s lent p in
     let w : eqb (s .link .phase) Limits.WAITING ≡ false = ap (λ p. eqb p Limits.WAITING) (g .attached) in
     let k : MessageReaches (b .part) p (r .event) (r .consumed) = rw w at (reaches s b lent p h) in
-    ⊎-elim (λ i. not-clear (feedRowsBy b lent) (i .0) (feed-clear s b lent m a g) (h .refuses (i .0) (i .1) .0))
+    ⊎-elim (λ i. not-clear (feedRowsBy b lent) (i .0) (feed-clear s b lent a g) (h .refuses (i .0) (i .1) .0))
     (λ i.
     let e = i .0 in
-    rw (i .1)
-    (verdict (s .link .devid) (b .items) m rest (g .command) (g .whole) e (r .consumed)
-    (rw (i .1, g .empty) at k)
-    (rw (w, g .empty) at (h .right e (i .1) .1))))
+    rw (i .1) (f e (r .consumed) (rw (i .1, g .empty) at k) (rw (w, g .empty) at (h .right e (i .1) .1))))
     (refused-or (r .event))
 
 pub accept-iff : AcceptIff
-accept-iff t cs lent m rest g =
+accept-iff t cs lent m rest g w =
+    let s = sessionFrom t cs in
+    let b = bookFrom t cs in
     let h = right-from t cs (feed (m ++ rest) lent) in
-    accepts-by (sessionFrom t cs) (bookFrom t cs) lent m rest (h .0) g (h .1)
+    ready-feed s b lent (m ++ rest) (h .0) g (h .1) (Verdict (s .link .devid) (b .items) m) (verdict (s .link .devid) (b .items) m rest (w .0) (w .1))
+
+pub unlink-iff : UnlinkIff
+unlink-iff t cs lent m rest g w =
+    let s = sessionFrom t cs in
+    let b = bookFrom t cs in
+    let h = right-from t cs (feed (m ++ rest) lent) in
+    ready-feed s b lent (m ++ rest) (h .0) g (h .1) (UnlinkVerdict (s .link .devid) (b .items) m)
+    (unlink-verdict (s .link .devid) (b .items) m rest (w .0) (w .1))
 
 answered-next : (s : Sess) (b : Book) (p : List ℕ) (lent : Buffers) (q st : ℕ) → Holds s b (feed p lent ∷ [])
     → feedOf s lent p .event ≡ done (answer q st) → feedOf s lent p .next ≡ between s

@@ -14,7 +14,7 @@ use Rattle.wire.specs.Codes
 use Rattle.messages.specs.Messages.{requestOf, busidOf, headerOf, bodyLen, unlinkSeqnum}
 use Rattle.messages.specs.declared.message.Header.{Header}
 use Rattle.messages.specs.declared.request.Request.{Request}
-use Rattle.messages.proofs.Headers.{unlink-seqnum}
+use Rattle.messages.proofs.Headers.{request-stays, unlink-seqnum}
 use Rattle.exports.specs.declared.device.Table.{Table}
 use Rattle.lookup.specs.Lookup.{findIn}
 use Rattle.lookup.specs.declared.Found.{Found}
@@ -30,12 +30,11 @@ use Rattle.verdicts.specs.Verdicts
 use Rattle.ground.proofs.Match.{gives, clear}
 use Rattle.ground.proofs.Cases.{second, differ}
 use Rattle.verdicts.proofs.Tables.{request-match}
-use Rattle.wire.proofs.Heads.{field-stays}
 use Rattle.model.specs.State.{Message, partly, headed, Sess}
 use Rattle.model.specs.Answers.{Event, hungry}
 use Rattle.model.specs.Judging.{submitTestsOf, submitted, submitting, unlinks, headerTestsOf, wholeHeader, message, requested, lookedUp, imports, request}
 use Rattle.model.specs.Judging.{judge}
-use Rattle.model.specs.Book.{Book, took, effectOf, pendingOf}
+use Rattle.model.specs.Book.{Book, Item, took, effectOf, pendingOf}
 use Rattle.model.specs.Claims.{header, messageLen, requestRowsBy, headerRowsBy, submitRowsBy, RightRequest, RightMessage, byPhase, Apart}
 use Rattle.model.proofs.Facts.{mem-to, mem-from, mem-found, apart-of}
 use Rattle.model.proofs.Tables.{header-match, submit-match}
@@ -49,8 +48,9 @@ GoodFields r = Clear (Verdicts.requestRows r) × (r .code ≡ Codes.OP-REQ-IMPOR
 abbrev GoodRequest : List ℕ → Type 0
 GoodRequest p = Clear (requestRowsBy (header p)) × (requestOf (header p) .code ≡ Codes.OP-REQ-IMPORT)
 
+-- of a submit the devid isn't asked yet
 abbrev GoodHeader : Book → Type 0
-GoodHeader b = Clear (headerRowsBy (b .items) (header (b .part))) × (headerOf (header (b .part)) .command ≡ Codes.CMD-SUBMIT)
+GoodHeader b = ((devid : ℕ) → Clear (headerRowsBy devid (b .items) (header (b .part)))) × (headerOf (header (b .part)) .command ≡ Codes.CMD-SUBMIT)
 
 -- between two calls
 pub record Going (phase : ℕ) (b : Book) : Type 0 where
@@ -66,21 +66,13 @@ pub record Came (phase : ℕ) (b : Book) : Type 0 where
   pub message : (phase ≡ Limits.WAITING → ⊥) → Codes.HEADER-LEN < length (b .part)
       → GoodHeader b × (length (b .part) ≤ messageLen (header (b .part)))
 
--- a request's version and code stay as more bytes come
-request-stays : (p : List ℕ) (x : ℕ) → Codes.OP-LEN ≤ length p → length p < Codes.OP-LEN + Codes.BUSID-LEN
+-- a request's head stays as a byte more comes
+head-stays : (p : List ℕ) (x : ℕ) → Codes.OP-LEN ≤ length p → length p < Codes.OP-LEN + Codes.BUSID-LEN
     → requestOf (header (p ++ (x ∷ []))) ≡ requestOf (header p)
-request-stays p x h l =
+head-stays p x h l =
     let e = take-all Codes.HEADER-LEN (p ++ (x ∷ [])) (omega (arith, one-more p x)) in
     let f = take-all Codes.HEADER-LEN p (omega arith) in
-    ap requestOf e ∙ both ∙ ap requestOf (sym f)
-  where
-    both : requestOf (p ++ (x ∷ [])) ≡ requestOf p
-    both =
-        λ i.
-        record {
-          version = field-stays 2 Codes.VERSION-AT p (x ∷ []) (omega arith) i;
-          code = field-stays 2 Codes.CODE-AT p (x ∷ []) (omega arith) i;
-        }
+    ap requestOf e ∙ request-stays p (x ∷ []) h ∙ ap requestOf (sym f)
 
 pub came : (phase : ℕ) (b : Book) (x : ℕ) → Going phase b → Came phase (took b (x ∷ []))
 came phase b x g =
@@ -89,7 +81,7 @@ came phase b x g =
           λ w l.
           let h : Codes.OP-LEN ≤ length (b .part) = omega (arith, one-more (b .part) x) in
           let r = g .request w h in
-          let e = request-stays (b .part) x h (r .1) in
+          let e = head-stays (b .part) x h (r .1) in
           (subst GoodFields (sym e) (r .0), omega (arith, one-more (b .part) x, r .1));
       message =
           λ w l.
@@ -189,10 +181,15 @@ module _ (t : Table) (devid : ℕ) (b : Book) (f : Fit Limits.WAITING b) (c : Ca
 -- ## A message
 
 -- a submit whose header passed has a seqnum that no pending URB has
-free : (b : Book) (h : List ℕ) → Clear (headerRowsBy (b .items) h) → headerOf h .command ≡ Codes.CMD-SUBMIT
+free : (b : Book) (h : List ℕ) (devid : ℕ) → Clear (headerRowsBy devid (b .items) h) → headerOf h .command ≡ Codes.CMD-SUBMIT
     → Apart (headerOf h .transfer .seqnum) (map seqnumOf (pendingOf (b .items)))
-free b h y c =
+free b h devid y c =
     apart-of seqnumOf (headerOf h .transfer .seqnum) (pendingOf (b .items)) (λ u m e. y .1 .1 .1 .1 .0 (c, (u, mem-to u (b .items) m, e)))
+
+-- whatever device is attached
+any-devid : (is : List Item) (h : List ℕ) (d e : ℕ) → headerOf h .command ≡ Codes.CMD-SUBMIT → Clear (headerRowsBy d is h) → Clear (headerRowsBy e is h)
+any-devid is h d e c y =
+    (y .0, (y .1 .0, (y .1 .1 .0, (y .1 .1 .1 .0, (y .1 .1 .1 .1 .0, (y .1 .1 .1 .1 .1 .0, ((λ q. omega (arith, c, q .0)), tt)))))))
 
 module _ (t : Table) (phase devid : ℕ) (b : Book) (f : Fit phase b) (away : phase ≡ Limits.WAITING → ⊥) (o : b .closed ≡ false) (c : Came phase b) where
   abbrev here : Sess
@@ -217,11 +214,11 @@ module _ (t : Table) (phase devid : ℕ) (b : Book) (f : Fit phase b) (away : ph
       let ts = submitTestsOf head here in
       let m = submit-match here b d refl refl in
       by-first Said (first ts)
-      (λ n h. ((l, g .0, g .1, gives ts (submitRowsBy devid (b .items) d) m n h, refl), tt, λ p. differ (cc)))
+      (λ n h. ((l, g .0 devid, g .1, gives ts (submitRowsBy devid (b .items) d) m n h, refl), tt, λ p. differ (cc)))
       λ h.
       let y = clear ts (submitRowsBy devid (b .items) d) m h in (
-        (l, g .0, g .1, y, refl, (refl, refl, refl, refl, refl, refl, refl, refl, refl, refl)),
-        (refl, free b d (g .0) (g .1), o, away),
+        (l, g .0 devid, g .1, y, refl, (refl, refl, refl, refl, refl, refl, refl, refl, refl, refl)),
+        (refl, free b d devid (g .0 devid) (g .1), o, away),
         λ p. differ (cc),
       )
 
@@ -233,17 +230,18 @@ module _ (t : Table) (phase devid : ℕ) (b : Book) (f : Fit phase b) (away : ph
       by-test Said
       (λ h.
       let s : length (b .part) < messageLen (header (b .part)) = omega (arith, ltb-true body (bodyLen head) h) in
-      (inr (l, g .0, g .1, s), tt, λ _. proceeds (λ _. (g, s))))
+      (inr (l, g .0 devid, g .1, s), tt, λ _. proceeds (λ _. (g, s))))
       λ h. submitted-right g (omega (arith, ltb-false body (bodyLen head) h))
 
   unlinks-right : (v : Option Urb) → findBy seqnumOf (unlinkSeqnum head) (pendingOf (b .items)) ≡ v
-      → length (b .part) ≡ Codes.HEADER-LEN → head .command ≡ Codes.CMD-UNLINK → Said (unlinks (head .transfer .seqnum) v)
-  unlinks-right none e l w =
+      → length (b .part) ≡ Codes.HEADER-LEN → Clear (headerRowsBy devid (b .items) (header (b .part))) → head .command ≡ Codes.CMD-UNLINK
+      → Said (unlinks (head .transfer .seqnum) v)
+  unlinks-right none e l y w =
       let n = find-none seqnumOf (unlinkSeqnum head) (pendingOf (b .items)) .0 e in
-      ((l, w, refl, (refl, λ u m s. n u (mem-from u (b .items) m) (s ∙ sym (unlink-seqnum (header (b .part)))))), tt, λ p. differ (cc))
-  unlinks-right (some u) e l w =
+      ((l, y, w, refl, (refl, λ u m s. n u (mem-from u (b .items) m) (s ∙ sym (unlink-seqnum (header (b .part)))))), tt, λ p. differ (cc))
+  unlinks-right (some u) e l y w =
       let g = find-some seqnumOf (unlinkSeqnum head) (pendingOf (b .items)) u e in (
-        (l, w, refl, (refl, (u, mem-to u (b .items) (g .1), g .0 ∙ unlink-seqnum (header (b .part)), refl))),
+        (l, y, w, refl, (refl, (u, mem-to u (b .items) (g .1), g .0 ∙ unlink-seqnum (header (b .part)), refl))),
         mem-found ticketOf (pendingOf (b .items)) u (g .1),
         λ p. differ (cc),
       )
@@ -252,16 +250,18 @@ module _ (t : Table) (phase devid : ℕ) (b : Book) (f : Fit phase b) (away : ph
   unfolding wholeHeader
   whole-right l =
       let d = header (b .part) in
-      let ts = headerTestsOf head (pendingOf (b .items)) in
-      let m = header-match (b .items) d in
+      let m = header-match devid (b .items) d in
       let bare : length (b .part) - Codes.HEADER-LEN ≡ 0 = omega arith in
-      by-first Said (first ts)
-      (λ n h. ((l, gives ts (headerRowsBy (b .items) d) m n h, refl), refl, λ p. differ (cc)))
+      by-first Said (first (headerTestsOf head devid (pendingOf (b .items))))
+      (λ f h. ((l, m .0 f h, refl), refl, λ p. differ (cc)))
       λ h.
-      let y = clear ts (headerRowsBy (b .items) d) m h in
+      let y = m .1 h in
       by-test Said
-      (λ k. subst (λ (n : ℕ). Said (submitting here head n)) bare (submitting-right (y, eqb-true _ _ k) (omega arith) (omega arith)))
-      λ k. unlinks-right _ refl l (second (head .command) Codes.CMD-SUBMIT Codes.CMD-UNLINK (y .0) (eqb-false _ _ k))
+      (λ k.
+      let e = eqb-true (head .command) Codes.CMD-SUBMIT k in
+      subst (λ (n : ℕ). Said (submitting here head n)) bare
+      (submitting-right ((λ i. any-devid (b .items) d devid i e y), e) (omega arith) (omega arith)))
+      λ k. unlinks-right _ refl l y (second (head .command) Codes.CMD-SUBMIT Codes.CMD-UNLINK (y .0) (eqb-false _ _ k))
 
   bodied-right : Codes.HEADER-LEN ≤ length (b .part) → Said (message here (headed head (length (b .part) - Codes.HEADER-LEN)))
   unfolding message

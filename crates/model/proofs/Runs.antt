@@ -149,7 +149,7 @@ module _ (t : Table) (phase devid : ℕ) (b : Book) (f : Fit phase b) (o : b .cl
   unlinked-is q st none r = refl
   unlinked-is q st (some k) r =
       let m = said (eqb phase Limits.WAITING) (r .0) in
-      let w = m .3 .1 in
+      let w = m .4 .1 in
       let u = w .0 in
       let e : unlinkSeqnum (headerIn (messageIn (b .part))) ≡ seqnumOf u =
       ap unlinkSeqnum (header-in (b .part) (omega (arith, m .0))) ∙ unlink-seqnum (header (b .part)) ∙ sym (w .2) in
@@ -211,7 +211,7 @@ module _ (t : Table) (phase devid : ℕ) where
           λ l. let r = g .request (eqb-true phase Limits.WAITING e) l in inr (l, r .1, r .0 .0, r .0 .1)
       by-phase false e =
           short (length (b .part)) Codes.HEADER-LEN (λ l. inl l)
-          λ l. let r = g .message (eqb-false phase Limits.WAITING e) l in inr (l, r .0 .0, r .0 .1, r .1)
+          λ l. let r = g .message (eqb-false phase Limits.WAITING e) l in inr (l, r .0 .0 devid, r .0 .1, r .1)
 
   fed-right : (xs : List ℕ) (lent : Buffers) (b : Book) → Fit phase b → b .closed ≡ false → Going phase b
       → let r = feedBytes (at b) lent xs in FedRight b (b .part ++ take (r .consumed) xs) (length xs) r
@@ -302,9 +302,11 @@ progresses b (closing (refused n)) = refl
 progresses b (closing (done ts)) = refl
 
 -- a header that no row was against, with fewer URBs pending
-fewer : (is js : List Item) (h : List ℕ) → ((u : Urb) → Pending js u → Pending is u) → Clear (headerRowsBy is h) → Clear (headerRowsBy js h)
-fewer is js h f y =
-    (y .0, (y .1 .0, (y .1 .1 .0, (y .1 .1 .1 .0, ((λ q. y .1 .1 .1 .1 .0 (q .0, (q .1 .0, f (q .1 .0) (q .1 .1), q .1 .2))), tt)))))
+fewer : (devid : ℕ) (is js : List Item) (h : List ℕ) → ((u : Urb) → Pending js u → Pending is u)
+    → Clear (headerRowsBy devid is h) → Clear (headerRowsBy devid js h)
+fewer devid is js h f y =
+    let rest = y .1 .1 .1 .1 in
+    (y .0, (y .1 .0, (y .1 .1 .0, (y .1 .1 .1 .0, ((λ q. rest .0 (q .0, (q .1 .0, f (q .1 .0) (q .1 .1), q .1 .2))), rest .1)))))
 
 pub record Left (t : Table) (phase devid : ℕ) (b : Book) (a : Entry) (s : Sess) : Type 0 where
   pub session : s ≡ sessionOf t (s .link .phase) (s .link .devid) (keep b a)
@@ -400,10 +402,11 @@ module _ (t : Table) (phase devid : ℕ) (b : Book) (f : Fit phase b) (g : Going
   settled-going : (k : ℕ) → Going phase (apply b (settle k returned))
   settled-going k =
       let js = mark k returned (b .items) in
+      let less = pending-before k returned (b .items) in
       record {
         request = g .request;
         message =
-            λ w l. let r = g .message w l in ((fewer (b .items) js (header (b .part)) (pending-before k returned (b .items)) (r .0 .0), r .0 .1), r .1);
+            λ w l. let r = g .message w l in (((λ d. fewer d (b .items) js (header (b .part)) less (r .0 .0 d)), r .0 .1), r .1);
       }
 
   module _ (c : Completion) where

@@ -14,7 +14,8 @@ use Rattle.pending.specs.Pending.{ticketOf, seqnumOf, findBy, found, ticketPlac
 use Rattle.pending.specs.declared.urb.Urb.{Urb}
 use Rattle.pending.proofs.Finding.{find-some, find-none, urb-first}
 use Rattle.pending.proofs.Halving.{ticket-placed}
-use Rattle.ground.proofs.Match.{Match}
+use Rattle.ground.proofs.Match.{Match, Decides}
+use Rattle.messages.proofs.Padding.{dirty-iff}
 use Rattle.verdicts.specs.Verdicts.{shortRead, statusSent}
 use Rattle.verdicts.proofs.Tables
 use Rattle.verdicts.proofs.Tables.{iff-refl, short-read-iff}
@@ -47,8 +48,8 @@ none-iff is key k =
 
 -- ## The tables
 
-pub header-match : (is : List Item) (h : List ℕ) → Match (headerTestsOf (headerOf h) (pendingOf is)) (headerRowsBy is h)
-header-match is h = Tables.header-match (headerOf h) _ _ (some-iff is seqnumOf (headerOf h .transfer .seqnum))
+pub header-match : (devid : ℕ) (is : List Item) (h : List ℕ) → Decides (headerTestsOf (headerOf h) devid (pendingOf is)) (headerRowsBy devid is h)
+header-match devid is h = Tables.header-match (headerOf h) devid _ _ _ (some-iff is seqnumOf (headerOf h .transfer .seqnum)) (dirty-iff h)
 
 pub submit-match : (s : Sess) (b : Book) (h : List ℕ) → s .pend ≡ pendingOf (b .items) → s .link .counts .accepted ≡ length (b .items)
     → Match (submitTestsOf (headerOf h) s) (submitRowsBy (s .link .devid) (b .items) h)

@@ -79,7 +79,7 @@ module _ (s : Sess) (n : s .link .phase ≡ Limits.WAITING → ⊥) where
   unfolding Judging.wholeHeader
   judged-header h e =
       let f : InFront s = rw e in
-      by-first (Judged s) (first (Judging.headerTestsOf h (s .pend))) (λ _ _. f)
+      by-first (Judged s) (first (Judging.headerTestsOf h (s .link .devid) (s .pend))) (λ _ _. f)
       (λ _. by-test (Judged s) (λ _. judged-submit h 0 e)
       (λ _. judged-unlink s (h .transfer .seqnum) (findBy seqnumOf (unlinkSeqnum h) (s .pend)) f))
 

@@ -11,7 +11,7 @@ use lib.Seq.{sets}
 use Rattle.wire.specs.Codes
 use Rattle.wire.specs.Status.{minus}
 use Rattle.ground.specs.Writing.{over}
-use Rattle.messages.specs.Messages.{requestOf, busidOf, headerOf, unlinkSeqnumOf, retSubmit, retUnlink}
+use Rattle.messages.specs.Messages.{requestOf, busidOf, headerOf, Dirty, unlinkSeqnumOf, retSubmit, retUnlink}
 use Rattle.messages.specs.declared.message.Header.{Header}
 use Rattle.messages.specs.declared.message.Transfer.{Transfer}
 use Rattle.exports.specs.Devices.{noDevice, devicesOf}
@@ -88,11 +88,11 @@ closeRowsBy b = row Limits.SESSION-CLOSED (b .closed ≡ true) ∷ []
 abbrev pub requestRowsBy : List ℕ → List (Row Fault)
 requestRowsBy h = Verdicts.requestRows (requestOf h)
 
--- Of a message's 48 bytes.
-abbrev pub headerRowsBy : List Item → List ℕ → List (Row Fault)
-headerRowsBy is h = Verdicts.headerRows (headerOf h) (SomePending is seqnumOf (headerOf h .transfer .seqnum))
+-- Of a message's 48 bytes; the devid is that of the device that this run's import named.
+abbrev pub headerRowsBy : ℕ → List Item → List ℕ → List (Row Fault)
+headerRowsBy devid is h = Verdicts.headerRows (headerOf h) devid (SomePending is seqnumOf (headerOf h .transfer .seqnum)) (Dirty h)
 
--- Of a whole submit, by status; the devid is that of the device that this run's import named.
+-- Of a whole submit, by status.
 abbrev pub submitRowsBy : ℕ → List Item → List ℕ → List (Row ℕ)
 submitRowsBy devid is h = Verdicts.submitRows (headerOf h) devid (length (pendingOf is)) (length is)
 
@@ -141,29 +141,30 @@ Removes is q st (some t) = (st ≡ minus Codes.ECONNRESET) × ((u : Urb) × Pend
 abbrev pub RightMessage : ℕ → List Item → List ℕ → Event → Type 0
 RightMessage devid is m hungry =
     (length m < Codes.HEADER-LEN)
-    ⊎ ((Codes.HEADER-LEN ≤ length m) × Clear (headerRowsBy is (header m))
+    ⊎ ((Codes.HEADER-LEN ≤ length m) × Clear (headerRowsBy devid is (header m))
     × (headerOf (header m) .command ≡ Codes.CMD-SUBMIT) × (length m < messageLen (header m)))
 RightMessage devid is m list = ⊥
 RightMessage devid is m (import st) = ⊥
 RightMessage devid is m (submit u) =
     (length m ≡ messageLen (header m))
-    × Clear (headerRowsBy is (header m))
+    × Clear (headerRowsBy devid is (header m))
     × (headerOf (header m) .command ≡ Codes.CMD-SUBMIT)
     × Clear (submitRowsBy devid is (header m))
     × (u ≡ urbOf (suc (length is)) (headerOf (header m)))
     × Carries (suc (length is)) (headerOf (header m)) u
 RightMessage devid is m (answer q st) =
     (length m ≡ messageLen (header m))
-    × Clear (headerRowsBy is (header m))
+    × Clear (headerRowsBy devid is (header m))
     × (headerOf (header m) .command ≡ Codes.CMD-SUBMIT)
     × Gives (submitRowsBy devid is (header m)) st
     × (q ≡ headerOf (header m) .transfer .seqnum)
 RightMessage devid is m (unlink q st o) =
     (length m ≡ Codes.HEADER-LEN)
+    × Clear (headerRowsBy devid is (header m))
     × (headerOf (header m) .command ≡ Codes.CMD-UNLINK)
     × (q ≡ headerOf (header m) .transfer .seqnum)
     × Removes is (unlinkSeqnumOf (header m)) st o
-RightMessage devid is m (break f ts) = (length m ≡ Codes.HEADER-LEN) × Gives (headerRowsBy is (header m)) f × (ts ≡ tickets (pendingOf is))
+RightMessage devid is m (break f ts) = (length m ≡ Codes.HEADER-LEN) × Gives (headerRowsBy devid is (header m)) f × (ts ≡ tickets (pendingOf is))
 
 abbrev pub byPhase : Bool → Type 0 → Type 0 → Type 0
 byPhase true waiting attached = waiting

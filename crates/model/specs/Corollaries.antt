@@ -5,7 +5,7 @@ use mathlib.Core.Path.{_≡_}
 use mathlib.Core.Bool.{true, false, cond}
 use mathlib.Core.List.{List, [], _∷_, _++_, List·Memᴰ}
 use mathlib.Core.Logic.{_↔_, _⊎_}
-use mathlib.Core.Option.{some}
+use mathlib.Core.Option.{Option, some}
 use lib.Dec.{eqb}
 use lib.ListN.{length, take, getD}
 use Rattle.wire.specs.Codes
@@ -151,15 +151,19 @@ AttachedTo = (t : Table) (cs : List Call)
     → sessionFrom t cs .link .phase ≡ Limits.ATTACHED
     → (busid : List ℕ) × (i : ℕ) × FirstDevice (devicesOf t) busid i × (sessionFrom t cs .link .devid ≡ devidOf (getD (devicesOf t) i noDevice))
 
--- The session is attached with no message in progress, the lent buffers are big enough, and m is one whole submit.
-pub record Ready (s : Sess) (b : Book) (lent : Buffers) (m : List ℕ) : Type 0 where
+-- The session is attached with no message in progress, and the lent buffers are big enough.
+pub record Ready (s : Sess) (b : Book) (lent : Buffers) : Type 0 where
   pub attached : s .link .phase ≡ Limits.ATTACHED
   pub empty : b .part ≡ []
   pub work : Limits.WORK-LEN ≤ length (lent .work)
   pub reply : Limits.REPLY-LEN ≤ length (lent .reply)
-  pub command : headerOf (header m) .command ≡ Codes.CMD-SUBMIT
-  -- so it has 48 bytes at least
-  pub whole : length m ≡ messageLen (header m)
+
+-- m is one whole submit, so it has 48 bytes at least; one whole unlink.
+abbrev pub WholeSubmit : List ℕ → Type 0
+WholeSubmit m = (headerOf (header m) .command ≡ Codes.CMD-SUBMIT) × (length m ≡ messageLen (header m))
+
+abbrev pub WholeUnlink : List ℕ → Type 0
+WholeUnlink m = (headerOf (header m) .command ≡ Codes.CMD-UNLINK) × (length m ≡ Codes.HEADER-LEN)
 
 -- A feed answers a whole submit m, the first of its piece, by the book and the devid: it is accepted exactly when no row of
 -- the two tables holds, it breaks the session exactly when a row of the first does, and is answered with a status exactly when
@@ -167,12 +171,12 @@ pub record Ready (s : Sess) (b : Book) (lent : Buffers) (m : List ℕ) : Type 0 
 pub record Verdict (devid : ℕ) (is : List Item) (m : List ℕ) (event : Outcome Event) (consumed : ℕ) : Type 0 where
   pub accepted : (u : Urb)
       → (event ≡ done (submit u))
-      ↔ (Clear (headerRowsBy is (header m)) × Clear (submitRowsBy devid is (header m)) × (u ≡ urbOf (suc (length is)) (headerOf (header m))))
+      ↔ (Clear (headerRowsBy devid is (header m)) × Clear (submitRowsBy devid is (header m)) × (u ≡ urbOf (suc (length is)) (headerOf (header m))))
   pub broken : (f : Fault) (ts : List ℕ)
-      → (event ≡ done (break f ts)) ↔ (Gives (headerRowsBy is (header m)) f × (ts ≡ tickets (pendingOf is)))
+      → (event ≡ done (break f ts)) ↔ (Gives (headerRowsBy devid is (header m)) f × (ts ≡ tickets (pendingOf is)))
   pub answered : (q st : ℕ)
       → (event ≡ done (answer q st))
-      ↔ (Clear (headerRowsBy is (header m)) × Gives (submitRowsBy devid is (header m)) st × (q ≡ headerOf (header m) .transfer .seqnum))
+      ↔ (Clear (headerRowsBy devid is (header m)) × Gives (submitRowsBy devid is (header m)) st × (q ≡ headerOf (header m) .transfer .seqnum))
   -- one of the three it is, with so many bytes consumed
   pub one : ((u : Urb) × (event ≡ done (submit u)) × (consumed ≡ length m))
       ⊎ (((q : ℕ) × (st : ℕ) × (event ≡ done (answer q st)) × (consumed ≡ length m))
@@ -183,7 +187,22 @@ AcceptIff = (t : Table) (cs : List Call) (lent : Buffers) (m rest : List ℕ)
     → let s = sessionFrom t cs in
     let b = bookFrom t cs in
     let r = feedOf s lent (m ++ rest) in
-    Ready s b lent m → Verdict (s .link .devid) (b .items) m (r .event) (r .consumed)
+    Ready s b lent → WholeSubmit m → Verdict (s .link .devid) (b .items) m (r .event) (r .consumed)
+
+-- A feed answers a whole unlink m, the first of its piece: it breaks the session exactly when a row of the table holds, and is answered
+-- exactly when none does. Either way its 48 bytes are consumed.
+pub record UnlinkVerdict (devid : ℕ) (is : List Item) (m : List ℕ) (event : Outcome Event) (consumed : ℕ) : Type 0 where
+  pub broken : (f : Fault) (ts : List ℕ)
+      → (event ≡ done (break f ts)) ↔ (Gives (headerRowsBy devid is (header m)) f × (ts ≡ tickets (pendingOf is)))
+  pub answered : ((q : ℕ) × (st : ℕ) × (o : Option ℕ) × (event ≡ done (unlink q st o))) ↔ Clear (headerRowsBy devid is (header m))
+  pub whole : consumed ≡ Codes.HEADER-LEN
+
+abbrev pub UnlinkIff : Type 0
+UnlinkIff = (t : Table) (cs : List Call) (lent : Buffers) (m rest : List ℕ)
+    → let s = sessionFrom t cs in
+    let b = bookFrom t cs in
+    let r = feedOf s lent (m ++ rest) in
+    Ready s b lent → WholeUnlink m → UnlinkVerdict (s .link .devid) (b .items) m (r .event) (r .consumed)
 
 -- A submit that is answered with a status leaves the session as it was, with no message in progress: no ticket is used up.
 abbrev pub AnsweredStays : Type 0

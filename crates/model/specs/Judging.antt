@@ -60,14 +60,14 @@ abbrev pub unlinks : ℕ → Option Urb → Event
 unlinks q none = unlink q 0 none
 unlinks q (some u) = unlink q (minus Codes.ECONNRESET) (some (ticketOf u))
 
--- By the pending URBs: 16 asks for the submit's own seqnum.
-abbrev pub headerTestsOf : Header → List Urb → List (Test Fault)
-headerTestsOf h pend = Verdicts.headerTests h (found (findBy seqnumOf (h .transfer .seqnum) pend))
+-- By the devid that is attached and the pending URBs: 16 asks for the submit's own seqnum.
+abbrev pub headerTestsOf : Header → (devid : ℕ) → List Urb → List (Test Fault)
+headerTestsOf h devid pend = Verdicts.headerTests h devid (found (findBy seqnumOf (h .transfer .seqnum) pend))
 
 -- The 48th byte of a message is in.
 unfoldable pub wholeHeader : Sess → Header → Event
 wholeHeader s h =
-    decide (first (headerTestsOf h (s .pend))) (breaks s)
+    decide (first (headerTestsOf h (s .link .devid) (s .pend))) (breaks s)
     (pick (eqb (h .command) Codes.CMD-SUBMIT) (submitting s h 0)
     (unlinks (h .transfer .seqnum) (findBy seqnumOf (unlinkSeqnum h) (s .pend))))
 

@@ -2,8 +2,8 @@
 use Rattle.listing.proofs.Whole.{lists-all}
 use Rattle.transmit.proofs.Whole.{sent-whole, reply-sent}
 use Rattle.model.proofs.Runs.{every-run}
-use Rattle.model.proofs.Corollaries.{open-iff, refused-iff, empty-piece, completion-sent, accept-iff, attached-to, answered-stays, consumption, late-ticket}
-use Rattle.model.proofs.Corollaries.{ended-ticket, cancelled-ticket}
+use Rattle.model.proofs.Corollaries.{open-iff, refused-iff, empty-piece, completion-sent, accept-iff, unlink-iff, attached-to, answered-stays, consumption}
+use Rattle.model.proofs.Corollaries.{late-ticket, ended-ticket, cancelled-ticket}
 use Rattle.model.proofs.Cut.{consumes, cutting, cutting-answers, draining}
 use Rattle.model.proofs.Untouched.{untouched, work-free, keeps}
 use Rattle.exchanges.proofs.Known.{known}
@@ -21,6 +21,7 @@ demand-2 = (
   reply-sent,
   completion-sent,
   accept-iff,
+  unlink-iff,
   attached-to,
   answered-stays,
   consumption,

@@ -25,6 +25,7 @@ Demand2 =
     × ReplySent
     × Corollaries.CompletionSent
     × Corollaries.AcceptIff
+    × Corollaries.UnlinkIff
     × Corollaries.AttachedTo
     × Corollaries.AnsweredStays
     × Corollaries.Consumption

@@ -62,6 +62,6 @@ first-append (t ∷ ts) us = at (t .holds) (first-append ts us)
     at false e = e
 
 -- a submit: its own fields first, then whether its seqnum is pending
-pub submit-first : (h : Header) (taken : Bool) → h .command ≡ Codes.CMD-SUBMIT
-    → first (headerTests h taken) ≡ decide (first (transferTests (h .transfer))) some (cond taken (some (fault Limits.SEQNUM-PENDING)) none)
-submit-first h taken e = rw e (first-append (transferTests (h .transfer)) (test (fault Limits.SEQNUM-PENDING) taken ∷ []))
+pub submit-first : (h : Header) (devid : ℕ) (taken : Bool) → h .command ≡ Codes.CMD-SUBMIT
+    → first (headerTests h devid taken) ≡ decide (first (transferTests (h .transfer))) some (cond taken (some (fault Limits.SEQNUM-PENDING)) none)
+submit-first h devid taken e = rw e (first-append (transferTests (h .transfer)) (test (fault Limits.SEQNUM-PENDING) taken ∷ []))

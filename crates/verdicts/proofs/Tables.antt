@@ -1,24 +1,27 @@
 -- Each table of tests matches its table of conditions: an answer is given exactly when its condition holds and none
 -- before it.
 use Prim.Native.Nat.{ℕ, suc, _%_, _<_}
+use native.Mathlib.Omega.{arith}
 use mathlib.Core.Path.{_≡_, refl}
 use mathlib.Core.Logic.{_↔_}
 use mathlib.Core.List.{List, [], _∷_, _++_}
-use mathlib.Core.Bool.{Bool, true, false, not}
-use lib.Dec.{eqb}
+use mathlib.Core.Bool.{Bool, true, false, not, cond, _||_, true≢false}
+use borrow.Author.Tests.{not-false}
+use lib.Dec.{eqb, ltb}
 use Rattle.wire.specs.Codes
 use Rattle.messages.specs.declared.request.Request.{Request}
 use Rattle.messages.specs.declared.message.Header.{Header}
 use Rattle.messages.specs.declared.message.Transfer.{Transfer}
-use Rattle.ground.proofs.Tests.{leb-iff, eqb-iff, not-iff, and-iff, or-iff, neither, iff-trans}
+use Rattle.ground.proofs.Tests.{leb-iff, eqb-iff, not-iff, and-iff, or-iff, neither, refutes, iff-trans}
 use Rattle.limits.specs.Limits
 use Rattle.ground.specs.Tests.{Test, test}
 use Rattle.ground.specs.Rows.{Row, row}
-use Rattle.verdicts.specs.Verdicts.{fault, feedTests, feedRows, requestTests, requestRows, transferTests, transferRows, headerTests, headerRows}
-use Rattle.verdicts.specs.Verdicts.{submitTests, submitRows, completionTests, completionRows, nonIsochronous, NonIsochronous, shortRead, ShortRead}
+use Rattle.verdicts.specs.Verdicts.{Not, fault, feedTests, feedRows, requestTests, requestRows, transferTests, transferRows, headerTests, headerRows}
+use Rattle.verdicts.specs.Verdicts.{unlinkTests, unlinkRows, submitTests, submitRows, completionTests, completionRows}
+use Rattle.verdicts.specs.Verdicts.{nonIsochronous, NonIsochronous, shortRead, ShortRead}
 use Rattle.verdicts.specs.declared.verdict.Completing.{Completing}
 use Rattle.verdicts.specs.declared.verdict.Fault.{Fault}
-use Rattle.ground.proofs.Match.{Match, guarded-match}
+use Rattle.ground.proofs.Match.{Match, Decides, before, guarded, either-match}
 
 pub iff-refl : {P : Type 0} → P ↔ P
 iff-refl = ((λ x. x), λ x. x)
@@ -36,8 +39,12 @@ pub request-match : (r : Request) → Match (requestTests r) (requestRows r)
 request-match r = (
   refl,
   not-iff (eqb-iff (r .version) Codes.VERSION),
-  λ _.
-      (refl, neither (eqb-iff (r .code) Codes.OP-REQ-DEVLIST) (eqb-iff (r .code) Codes.OP-REQ-IMPORT), λ _. tt),
+  λ _. (
+    refl,
+    neither (eqb-iff (r .code) Codes.OP-REQ-DEVLIST) (eqb-iff (r .code) Codes.OP-REQ-IMPORT),
+    λ _.
+        (refl, not-iff (eqb-iff (r .status) 0), λ _. tt),
+  ),
 )
 
 -- with whatever tests come behind them
@@ -56,16 +63,37 @@ transfer-then t ts rs m = (
 pub transfer-match : (t : Transfer) → Match (transferTests t) (transferRows t)
 transfer-match t = transfer-then t [] [] tt
 
-pub header-match : (h : Header) (taken : Bool) (Taken : Type 0) → (taken ≡ true) ↔ Taken → Match (headerTests h taken) (headerRows h Taken)
-header-match h taken Taken t =
-    let c = eqb-iff (h .command) Codes.CMD-SUBMIT in
+pub unlink-match : (h : Header) (devid : ℕ) (Dirty : Type 0) → (ltb (h .dirty) Codes.HEADER-LEN ≡ true) ↔ Dirty
+    → Match (unlinkTests h devid) (unlinkRows h devid Dirty)
+unlink-match h devid Dirty d = (refl, d, λ _. (refl, not-iff (eqb-iff (h .devid) devid), λ _. tt))
+
+-- what gets past 12 is a submit or an unlink, and not both
+pub header-match : (h : Header) (devid : ℕ) (taken : Bool) (Taken Dirty : Type 0) → (taken ≡ true) ↔ Taken → (ltb (h .dirty) Codes.HEADER-LEN ≡ true) ↔ Dirty
+    → Decides (headerTests h devid taken) (headerRows h devid Taken Dirty)
+header-match h devid taken Taken Dirty t d =
+    let submits = h .command ≡ Codes.CMD-SUBMIT in
+    let unlinks = h .command ≡ Codes.CMD-UNLINK in
+    let submit = eqb (h .command) Codes.CMD-SUBMIT in
+    let unlink = eqb (h .command) Codes.CMD-UNLINK in
+    let is : (submit ≡ true) ↔ submits = eqb-iff (h .command) Codes.CMD-SUBMIT in
+    let un : (unlink ≡ true) ↔ unlinks = eqb-iff (h .command) Codes.CMD-UNLINK in
     let pending = test (fault Limits.SEQNUM-PENDING) taken ∷ [] in
-    let rows = row (fault Limits.SEQNUM-PENDING) Taken ∷ [] in (
-      refl,
-      neither c (eqb-iff (h .command) Codes.CMD-UNLINK),
-      λ _. guarded-match (eqb (h .command) Codes.CMD-SUBMIT) c (transferTests (h .transfer) ++ pending) (transferRows (h .transfer) ++ rows)
-          (transfer-then (h .transfer) pending rows (refl, t, λ _. tt)),
-    )
+    let rows = row (fault Limits.SEQNUM-PENDING) Taken ∷ [] in
+    let ts = transferTests (h .transfer) ++ pending in
+    let rs = transferRows (h .transfer) ++ rows in
+    let us = unlinkTests h devid in
+    let qs = unlinkRows h devid Dirty in
+    before (test (fault Limits.BAD-COMMAND) (not (submit || unlink)))
+    (row (fault Limits.BAD-COMMAND) (Not (h .command) Codes.CMD-SUBMIT × Not (h .command) Codes.CMD-UNLINK))
+    (cond submit ts us) (guarded submits rs ++ guarded unlinks qs) refl (neither is un)
+    (λ known. either-match submits unlinks submit
+    (λ e. (is .0 e, λ u. omega (arith, is .0 e)))
+    (λ e. (refutes is e, un .0 (other submit unlink e known)))
+    ts rs (transfer-then (h .transfer) pending rows (refl, t, λ _. tt)) us qs (unlink-match h devid Dirty d))
+  where
+    other : (s u : Bool) → s ≡ false → not (s || u) ≡ false → u ≡ true
+    other true u e k = absurd (true≢false e)
+    other false u e k = not-false u k
 
 pub submit-match : (h : Header) (devid pending accepted : ℕ) → Match (submitTests h devid pending accepted) (submitRows h devid pending accepted)
 submit-match h devid pending accepted = (

@@ -69,21 +69,23 @@ feedRows closed work reply =
     ∷ row Limits.SHORT-BUFFER ((work < Limits.WORK-LEN) ⊎ (reply < Limits.REPLY-LEN))
     ∷ []
 
--- ## Feed: "Tests 10 and 11 come with the 8th byte of a request"
+-- ## Feed: 10, 11 and 17 come with the 8th byte of a request
 
 abbrev pub requestTests : Request → List (Test Fault)
 requestTests r =
     test (fault Limits.BAD-VERSION) (not (eqb (r .version) Codes.VERSION))
     ∷ test (fault Limits.BAD-CODE) (not (eqb (r .code) Codes.OP-REQ-DEVLIST || eqb (r .code) Codes.OP-REQ-IMPORT))
+    ∷ test (fault Limits.DIRTY-PADDING) (not (eqb (r .status) 0))
     ∷ []
 
 abbrev pub requestRows : Request → List (Row Fault)
 requestRows r =
     row (fault Limits.BAD-VERSION) (Not (r .version) Codes.VERSION)
     ∷ row (fault Limits.BAD-CODE) (Not (r .code) Codes.OP-REQ-DEVLIST × Not (r .code) Codes.OP-REQ-IMPORT)
+    ∷ row (fault Limits.DIRTY-PADDING) (Not (r .status) 0)
     ∷ []
 
--- ## Feed: "12 to 16 with the 48th byte of a message, 13 to 16 for submits only"
+-- ## Feed: 12 comes with the 48th byte of a message, 13 to 16 for submits and 17 and 18 for unlinks, too
 
 -- 13 to 15: a submit, by its own fields alone.
 abbrev pub transferTests : Transfer → List (Test Fault)
@@ -100,22 +102,39 @@ transferRows t =
     ∷ row (fault Limits.BAD-PACKETS) (Not (t .packets) 0 × Not (t .packets) Limits.NO-PACKETS)
     ∷ []
 
--- taken: the submit's seqnum is pending.
-abbrev pub headerTests : Header → (taken : Bool) → List (Test Fault)
-headerTests h taken =
+-- 17 and 18: an unlink, by its own fields and the devid of the device that is attached.
+abbrev pub unlinkTests : Header → (devid : ℕ) → List (Test Fault)
+unlinkTests h devid =
+    test (fault Limits.DIRTY-PADDING) (ltb (h .dirty) Codes.HEADER-LEN)
+    ∷ test (fault Limits.BAD-DEVID) (not (eqb (h .devid) devid))
+    ∷ []
+
+-- dirty: a byte of the unlink's padding isn't 0.
+abbrev pub unlinkRows : Header → (devid : ℕ) → (dirty : Type 0) → List (Row Fault)
+unlinkRows h devid dirty =
+    row (fault Limits.DIRTY-PADDING) dirty
+    ∷ row (fault Limits.BAD-DEVID) (Not (h .devid) devid)
+    ∷ []
+
+-- taken: the submit's seqnum is pending. What is no submit and gets past 12 is an unlink.
+abbrev pub headerTests : Header → (devid : ℕ) → (taken : Bool) → List (Test Fault)
+headerTests h devid taken =
     let isSubmit = eqb (h .command) Codes.CMD-SUBMIT in
     test (fault Limits.BAD-COMMAND) (not (isSubmit || eqb (h .command) Codes.CMD-UNLINK))
-    ∷ cond isSubmit (transferTests (h .transfer) ++ (test (fault Limits.SEQNUM-PENDING) taken ∷ [])) []
+    ∷ cond isSubmit (transferTests (h .transfer) ++ (test (fault Limits.SEQNUM-PENDING) taken ∷ [])) (unlinkTests h devid)
 
-abbrev pub headerRows : Header → (taken : Type 0) → List (Row Fault)
-headerRows h taken =
+abbrev pub headerRows : Header → (devid : ℕ) → (taken dirty : Type 0) → List (Row Fault)
+headerRows h devid taken dirty =
     let isSubmit = h .command ≡ Codes.CMD-SUBMIT in
+    let isUnlink = h .command ≡ Codes.CMD-UNLINK in
     let t = h .transfer in
     row (fault Limits.BAD-COMMAND) (Not (h .command) Codes.CMD-SUBMIT × Not (h .command) Codes.CMD-UNLINK)
     ∷ row (fault Limits.BAD-DIRECTION) (isSubmit × (Codes.DIR-IN < t .direction))
     ∷ row (fault Limits.BAD-LENGTH) (isSubmit × (Limits.MAX-TRANSFER < t .length))
     ∷ row (fault Limits.BAD-PACKETS) (isSubmit × (Not (t .packets) 0 × Not (t .packets) Limits.NO-PACKETS))
     ∷ row (fault Limits.SEQNUM-PENDING) (isSubmit × taken)
+    ∷ row (fault Limits.DIRTY-PADDING) (isUnlink × dirty)
+    ∷ row (fault Limits.BAD-DEVID) (isUnlink × Not (h .devid) devid)
     ∷ []
 
 -- ## Feed: a submit that passes is judged when its last byte is in, by status

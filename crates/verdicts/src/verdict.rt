@@ -3,10 +3,12 @@
 use limits::ACTUAL_TOO_LONG;
 use limits::BAD_CODE;
 use limits::BAD_COMMAND;
+use limits::BAD_DEVID;
 use limits::BAD_DIRECTION;
 use limits::BAD_LENGTH;
 use limits::BAD_PACKETS;
 use limits::BAD_VERSION;
+use limits::DIRTY_PADDING;
 use limits::LAST_TICKET;
 use limits::MAX_EP;
 use limits::MAX_PENDING;
@@ -37,12 +39,12 @@ use wire::status::MINUS_ENOMEM;
 use wire::status::MINUS_EREMOTEIO;
 use wire::status::is_positive;
 ghost use mathlib.Core.Path.{_≡_};
-ghost use mathlib.Core.Bool.{_&&_};
+ghost use mathlib.Core.Bool.{not, _&&_, _||_};
 ghost use lib.Dec.{eqb, ltb};
 ghost use Rattle.wire.specs.Codes;
 ghost use Rattle.ground.specs.Tests.{first};
 ghost use Rattle.verdicts.specs.Verdicts.{admissionOf, readingOf, acceptanceOf, fault, feedTests, requestTests, transferTests, headerTests, submitTests};
-ghost use Rattle.verdicts.specs.Verdicts.{nonIsochronous, completionTests, shortRead, statusSent};
+ghost use Rattle.verdicts.specs.Verdicts.{unlinkTests, nonIsochronous, completionTests, shortRead, statusSent};
 
 // An act is admitted, or refused by number.
 pub enum Admission {
@@ -50,7 +52,7 @@ pub enum Admission {
     Refused(u32),
 }
 
-// A fault of the stream, by number: 10 to 16. Only the reader of a field makes one.
+// A fault of the stream, by number: 10 to 18. Only the reader of a field makes one.
 #[repr(C)]
 pub struct Fault {
     pub number: u32,
@@ -90,6 +92,16 @@ pub fn feed_refusal(closed: bool, work: usize, reply: usize) -> Admission
     Admission::Admitted
 }
 
+// The code of a request that is known.
+fn good_code(code: u16) -> bool
+    ensures { λ r. ⌜ r ≡ (eqb code Codes.OP-REQ-DEVLIST || eqb code Codes.OP-REQ-IMPORT) ⌝ }
+{
+    if code == OP_REQ_DEVLIST {
+        return true;
+    }
+    code == OP_REQ_IMPORT
+}
+
 // A request, when its 8th byte is in.
 pub fn request_fault(r: Request) -> Reading
     ensures { λ v. ⌜ v ≡ readingOf (first (requestTests r)) ⌝ }
@@ -97,13 +109,13 @@ pub fn request_fault(r: Request) -> Reading
     if r.version != VERSION {
         return faulty(BAD_VERSION);
     }
-    if r.code == OP_REQ_DEVLIST {
-        return Reading::Sound;
+    if !good_code(r.code) {
+        return faulty(BAD_CODE);
     }
-    if r.code == OP_REQ_IMPORT {
-        return Reading::Sound;
+    if r.status != 0 {
+        return faulty(DIRTY_PADDING);
     }
-    faulty(BAD_CODE)
+    Reading::Sound
 }
 
 // By number_of_packets a transfer isn't isochronous.
@@ -132,12 +144,32 @@ pub fn transfer_fault(t: Transfer) -> Reading
     Reading::Sound
 }
 
+// A message for another device than the one that is attached.
+fn for_another(h: Header, devid: u64) -> bool
+    ensures { λ r. ⌜ r ≡ not (eqb (h .devid) devid) ⌝ }
+{
+    h.devid as u64 != devid
+}
+
+// An unlink, by its own fields and the devid that is attached.
+pub fn unlink_fault(h: Header, devid: u64) -> Reading
+    ensures { λ v. ⌜ v ≡ readingOf (first (unlinkTests h devid)) ⌝ }
+{
+    if h.dirty < HEADER_LEN {
+        return faulty(DIRTY_PADDING);
+    }
+    if for_another(h, devid) {
+        return faulty(BAD_DEVID);
+    }
+    Reading::Sound
+}
+
 // A message, when its 48th byte is in; taken says whether a submit's seqnum is pending.
-pub fn header_fault(h: Header, taken: bool) -> Reading
-    ensures { λ v. ⌜ v ≡ readingOf (first (headerTests h taken)) ⌝ }
+pub fn header_fault(h: Header, devid: u64, taken: bool) -> Reading
+    ensures { λ v. ⌜ v ≡ readingOf (first (headerTests h devid taken)) ⌝ }
 {
     if h.command == CMD_UNLINK {
-        return Reading::Sound;
+        return unlink_fault(h, devid);
     }
     if h.command != CMD_SUBMIT {
         return faulty(BAD_COMMAND);
@@ -156,7 +188,7 @@ pub fn header_fault(h: Header, taken: bool) -> Reading
 pub fn submit_status(h: Header, devid: u64, pending: usize, accepted: u64) -> Acceptance
     ensures { λ v. ⌜ v ≡ acceptanceOf (first (submitTests h devid pending accepted)) ⌝ }
 {
-    if h.devid as u64 != devid {
+    if for_another(h, devid) {
         return Acceptance::Answered(MINUS_ENODEV);
     }
     if MAX_EP < h.transfer.ep {

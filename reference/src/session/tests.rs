@@ -73,11 +73,7 @@ impl Deck {
     }
 
     fn unlink(&mut self, seqnum: u32, unlink_seqnum: u32) -> (i32, Option<u64>) {
-        let unlink = CmdUnlink {
-            seqnum,
-            unlink_seqnum,
-            ..CmdUnlink::default()
-        };
+        let unlink = unlink_of(seqnum, unlink_seqnum);
         match self.feed(&unlink.header()).event {
             Event::Unlink {
                 seqnum: own,
@@ -127,6 +123,15 @@ fn intr_out(seqnum: u32) -> CmdSubmit {
     CmdSubmit {
         direction: USBIP_DIR_OUT,
         ..intr_in(seqnum)
+    }
+}
+
+fn unlink_of(seqnum: u32, unlink_seqnum: u32) -> CmdUnlink {
+    CmdUnlink {
+        seqnum,
+        unlink_seqnum,
+        devid: DEVID,
+        ..CmdUnlink::default()
     }
 }
 
@@ -417,9 +422,17 @@ mod breaks {
 
     #[test]
     fn requests_break_with_their_8th_byte() {
-        let both = bytes("0110 8004 00000000");
-        let code = bytes("0111 8004 00000000");
-        for (request, reason) in [(both, Break::Version), (code, Break::Code)] {
+        for (request, reason) in [
+            ("0110 8004 00000000", Break::Version),
+            ("0110 8005 00000001", Break::Version),
+            ("0111 8004 00000000", Break::Code),
+            ("0111 8004 00000001", Break::Code),
+            ("0111 8005 00000001", Break::Padding),
+            ("0111 8005 01000000", Break::Padding),
+            ("0111 8003 00000001", Break::Padding),
+            ("0111 8003 01000000", Break::Padding),
+        ] {
+            let request = bytes(request);
             let mut deck = Deck::waiting(tape::table());
             assert_eq!(deck.feed(&request[..7]).event, Event::Hungry);
             let fed = deck.feed(&[request[7], 1, 2, 3]);
@@ -428,13 +441,6 @@ mod breaks {
             assert_eq!(fed.event, Event::Broken { reason, dropped });
             assert!(deck.session.is_closed());
         }
-    }
-
-    #[test]
-    fn the_status_of_a_request_is_ignored() {
-        let mut deck = Deck::waiting(tape::table());
-        let fed = deck.feed(&bytes("0111 8005 ffffffff"));
-        assert_eq!(fed.event, Event::List);
     }
 
     #[test]
@@ -487,20 +493,72 @@ mod breaks {
         assert_eq!(broken, (Break::Command, vec![]));
     }
 
+    /// Breaks with the 48th byte: all that is pending is dropped, and nothing is answered.
+    fn breaks_an_unlink(header: &[u8], reason: Break) {
+        let mut deck = Deck::with_pending(2);
+        assert_eq!(deck.feed(&header[..47]).event, Event::Hungry);
+        let fed = deck.feed(&[header[47], 1, 2, 3]);
+        let dropped = vec![1, 2];
+        assert_eq!((fed.consumed, fed.length), (1, 0));
+        assert_eq!(fed.event, Event::Broken { reason, dropped });
+        assert_eq!(deck.numbers(), [2, 0, 0, 0, 2]);
+        assert_eq!(deck.reply, [UNTOUCHED; LEAST_REPLY]);
+    }
+
     #[test]
-    fn unlinks_never_break() {
-        let mut deck = Deck::with_pending(1);
-        let mut header = [0xff; HEADER_SIZE];
-        header[..8].copy_from_slice(&bytes("00000002 00000001"));
-        header[20..24].copy_from_slice(&bytes("00000001"));
-        let fed = deck.feed(&header);
-        let (seqnum, status, removed) = (1, -104, Some(1));
-        let event = Event::Unlink {
-            seqnum,
-            status,
-            removed,
+    fn an_unlink_breaks_by_every_byte_of_its_padding() {
+        let clean = unlink_of(9, 1);
+        for offset in (12..20).chain(24..48) {
+            for value in [1, 0x80] {
+                let mut header = clean.header();
+                header[offset] = value;
+                breaks_an_unlink(&header, Break::Padding);
+            }
+        }
+        for (direction, ep) in [(1, 0), (0, 1), (u32::MAX, u32::MAX)] {
+            let unlink = CmdUnlink {
+                direction,
+                ep,
+                ..clean
+            };
+            breaks_an_unlink(&unlink.header(), Break::Padding);
+        }
+    }
+
+    #[test]
+    fn an_unlink_breaks_by_its_devid_after_its_padding() {
+        for devid in [0, DEVID - 1, DEVID & 0xffff, DEVID ^ 0x8000_0000] {
+            let unlink = CmdUnlink {
+                devid,
+                ..unlink_of(9, 1)
+            };
+            breaks_an_unlink(&unlink.header(), Break::Devid);
+            let mut dirty = unlink.header();
+            dirty[47] = 1;
+            breaks_an_unlink(&dirty, Break::Padding);
+            dirty[3] = 3;
+            breaks_an_unlink(&dirty, Break::Command);
+        }
+    }
+
+    #[test]
+    fn unlink_seqnum_is_no_padding() {
+        let mut deck = Deck::attached();
+        deck.accept(&intr_in(u32::MAX));
+        assert_eq!(deck.unlink(u32::MAX, u32::MAX), (-104, Some(1)));
+    }
+
+    #[test]
+    fn a_submit_has_no_padding() {
+        let submit = CmdSubmit {
+            devid: DEVID ^ 1,
+            transfer_flags: u32::MAX,
+            start_frame: u32::MAX,
+            interval: u32::MAX,
+            setup: [0xff; 8],
+            ..intr_in(1)
         };
-        assert_eq!(fed.event, event);
+        assert_eq!(Deck::attached().answer(&submit), -19);
     }
 }
 
@@ -614,7 +672,7 @@ mod streams {
         stream.extend([7; 64]);
         stream.extend(intr_in(2).header());
         stream.extend(with(|submit| submit.ep = 16).header());
-        stream.extend(CmdUnlink::default().header());
+        stream.extend(unlink_of(3, 0).header());
         stream.extend(intr_in(2).header());
         let whole = events(&stream, 0);
         assert_eq!(whole.0.len(), 6);

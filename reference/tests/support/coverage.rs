@@ -1,8 +1,10 @@
 //! Which kinds of lines and of bad tapes were reached, and how often.
 
 use reference::generate::{BadEnd, BAD_ENDS};
-use reference::tape::{Item, Reader};
+use reference::tape::{Item, Reader, Record};
+use reference::wire::HEADER_SIZE;
 use std::collections::BTreeMap;
+use std::ops::Range;
 
 /// Every kind of line that a tape can reach, with every number and status, two limits, and what URB_SHORT_NOT_OK can meet.
 const LINES: &[&str] = &[
@@ -17,6 +19,12 @@ const LINES: &[&str] = &[
     "broken 14",
     "broken 15",
     "broken 16",
+    "broken 17",
+    "broken 17: direction",
+    "broken 17: ep",
+    "broken 17: after unlink_seqnum",
+    "broken 17: status",
+    "broken 18",
     "closed",
     "data -",
     "data",
@@ -73,6 +81,9 @@ impl Coverage {
             for kind in return_kinds(line, &urbs) {
                 self.count(kind);
             }
+        }
+        if trace.contains("broken 17\n") {
+            self.count(format!("broken 17: {}", dirty(&stream(tape), trace)));
         }
         if let Some(end) = bad_end(tape) {
             self.count(format!("bad tape: {end:?}"));
@@ -195,6 +206,39 @@ fn short_read_kinds(urb: &Urb, actual: u32, status: &str) -> Vec<String> {
         kinds.push(format!("short read, one byte missing: {status}"));
     }
     kinds
+}
+
+/// The field that the first dirty byte is in of the message that broke the session: the last bytes
+/// that were consumed are its own.
+fn dirty(stream: &[u8], trace: &str) -> &'static str {
+    let counts = trace.lines().filter_map(|line| line.strip_prefix("feed "));
+    let consumed: usize = counts
+        .map(|rest| rest.split(' ').next().expect("a count"))
+        .map(|count| count.parse::<usize>().expect("a count"))
+        .sum();
+    if !trace.contains("import 0\n") {
+        return "status";
+    }
+    let header = &stream[consumed - HEADER_SIZE..consumed];
+    let is_dirty = |fields: Range<usize>| header[fields].iter().any(|&byte| byte != 0);
+    if is_dirty(0x0c..0x10) {
+        "direction"
+    } else if is_dirty(0x10..0x14) {
+        "ep"
+    } else {
+        "after unlink_seqnum"
+    }
+}
+
+fn stream(tape: &[u8]) -> Vec<u8> {
+    let mut reader = Reader::new(tape);
+    let mut bytes = Vec::new();
+    while let Item::Record(record) = reader.read_item().expect("a slice reads") {
+        if let Record::Stream(piece) = record {
+            bytes.extend(piece);
+        }
+    }
+    bytes
 }
 
 fn bad_end(tape: &[u8]) -> Option<BadEnd> {

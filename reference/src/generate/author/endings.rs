@@ -1,8 +1,8 @@
 //! What ends a session, and what comes after.
 
 use super::Author;
-use crate::tape::BUSID;
-use crate::wire::{op_req_devlist, op_req_import_of, CmdSubmit};
+use crate::tape::{BUSID, DEVID};
+use crate::wire::{op_req_devlist, op_req_import_of, CmdSubmit, CmdUnlink};
 
 impl Author {
     pub(super) fn import_unknown(&mut self) {
@@ -14,20 +14,22 @@ impl Author {
     }
 
     pub(super) fn break_request(&mut self) {
-        let version: u16 = self.random.pick(&[0x0111, 0x0110, 0x1101, 0x0100]);
+        let version: u16 = self.random.pick(&[0x0111, 0x0111, 0x0110, 0x1101, 0x0100]);
         let codes = match version {
-            0x0111 => &[0x0005, 0x0003, 0x8004, 0x0580, 0xffff][..],
+            0x0111 => &[0x8005, 0x8003, 0x8003, 0x0005, 0x0003, 0x8004, 0x0580][..],
             _ => &[0x8005, 0x8003, 0][..],
         };
         let code: u16 = self.random.pick(codes);
+        let status: u32 = self.random.pick(&[1, 0x100, 0x0100_0000, u32::MAX]);
         let mut request = [version.to_be_bytes(), code.to_be_bytes()].concat();
+        request.extend(status.to_be_bytes());
         let more = self.random.below(60);
-        request.extend(self.random.bytes(4 + more));
+        request.extend(self.random.bytes(more));
         self.stream(request);
     }
 
     pub(super) fn break_command(&mut self) {
-        let mut message = match self.random.below(7) {
+        let mut message = match self.random.below(10) {
             0 => op_req_devlist().repeat(6),
             1 => [op_req_import_of(BUSID), op_req_devlist()].concat(),
             2 => {
@@ -36,7 +38,8 @@ impl Author {
                 header[..4].copy_from_slice(&command.to_be_bytes());
                 header.to_vec()
             }
-            lowest => self.break_submit(lowest - 3).header().to_vec(),
+            lowest @ 3..=6 => self.break_submit(lowest - 3).header().to_vec(),
+            _ => self.break_unlink(),
         };
         let more = self.random.below(60);
         message.extend(self.random.bytes(more));
@@ -61,6 +64,30 @@ impl Author {
             }
         }
         submit
+    }
+
+    /// An unlink with a byte of its padding dirty, now and then several, or another devid, or both.
+    fn break_unlink(&mut self) -> Vec<u8> {
+        if self.session.pending().is_empty() {
+            self.submit_good();
+        }
+        let unlink = CmdUnlink {
+            seqnum: self.seqnum(),
+            unlink_seqnum: self.pick_pending().map_or(0, |urb| urb.seqnum),
+            devid: self.random.pick(&[DEVID, DEVID, DEVID, 0, DEVID - 1]),
+            ..CmdUnlink::default()
+        };
+        let mut header = unlink.header();
+        let dirty = match unlink.devid {
+            DEVID => self.random.pick(&[1, 1, 1, 2, 32]),
+            _ => self.random.pick(&[0, 1]),
+        };
+        let padding: Vec<usize> = (12..20).chain(24..48).collect();
+        for _ in 0..dirty {
+            let offset = self.random.pick(&padding);
+            header[offset] = self.random.pick(&[1, 0x80, 0xff]);
+        }
+        header.to_vec()
     }
 
     pub(super) fn stop_within_message(&mut self) {

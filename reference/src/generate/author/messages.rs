@@ -139,23 +139,13 @@ impl Author {
         let target = self
             .random
             .pick(&[pending, pending, pending, used, own, any]);
-        let mut unlink = CmdUnlink {
+        let unlink = CmdUnlink {
             seqnum: own,
             unlink_seqnum: target,
             devid: DEVID,
             ..CmdUnlink::default()
         };
-        if self.random.chance(30) {
-            unlink.devid = self.word();
-            unlink.direction = self.word();
-            unlink.ep = self.word();
-        }
-        let mut message = unlink.header().to_vec();
-        if self.random.chance(30) {
-            message.truncate(24);
-            message.extend(self.random.bytes(24));
-        }
-        self.stream(message);
+        self.stream(unlink.header().to_vec());
     }
 
     /// Fills the list, goes past it, and lets a good message follow.

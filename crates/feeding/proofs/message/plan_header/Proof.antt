@@ -28,7 +28,7 @@ returns c =
     let v = c .before .before .before .before .before in
     let a = v .before .before .args in
     let f =
-    reading-first (first (headerTests (a .p .header) (a .look .found))) none (v .header-fault .result) (v .header-fault .ensures)
+    reading-first (first (headerTests (a .p .header) (a .link .devid) (a .look .found))) none (v .header-fault .result) (v .header-fault .ensures)
     (c .before .before .before .enum-told .given .1) in
     rw (f, eq-eqb _ _ (c .before .if1 .taken), c .plan-submit .ensures)
 
@@ -41,7 +41,9 @@ returns-2 c =
     let g = c .before .before .reading .given in
     let v = c .before .before .before .before in
     let a = v .before .before .args in
-    let f = reading-first (first (headerTests (a .p .header) (a .look .found))) (some (g .0 .0)) (v .header-fault .result) (v .header-fault .ensures) (g .1) in
+    let f =
+    reading-first (first (headerTests (a .p .header) (a .link .devid) (a .look .found))) (some (g .0 .0)) (v .header-fault .result) (v .header-fault .ensures)
+    (g .1) in
     rw (f, c .plan-broken .ensures)
 
 returns-3 : tie.Need-returns-3
@@ -50,7 +52,7 @@ returns-3 c =
     let v = c .before .before .before .before .before in
     let a = v .before .before .args in
     let f =
-    reading-first (first (headerTests (a .p .header) (a .look .found))) none (v .header-fault .result) (v .header-fault .ensures)
+    reading-first (first (headerTests (a .p .header) (a .link .devid) (a .look .found))) none (v .header-fault .result) (v .header-fault .ensures)
     (c .before .before .before .enum-told .given .1) in
     rw (f, ne-eqb _ _ (c .before .if1 .left), c .plan-unlinked .ensures)
 

@@ -14,11 +14,21 @@ read-transfer-requires c κs = search needs
 read-setup-requires : tie.Need-read-setup-requires
 read-setup-requires c κs = search needs
 
+read-dirty-requires : tie.Need-read-dirty-requires
+read-dirty-requires c κs = search needs
+
 returns : tie.Need-returns
 returns c =
-    let transfer = c .before in
+    let setup = c .before in
+    let transfer = setup .before in
     let devid = transfer .before in
-    simp (devid .before .field32 .ensures, devid .field322 .ensures, transfer .read-transfer .ensures, c .read-setup .ensures)
+    simp (
+      devid .before .field32 .ensures,
+      devid .field322 .ensures,
+      transfer .read-transfer .ensures,
+      setup .read-setup .ensures,
+      c .read-dirty .ensures,
+    )
 
 pub read-header-spec : {M : Type 1} → statement M
 read-header-spec =
@@ -28,4 +38,5 @@ read-header-spec =
     field32-requires-2
     read-transfer-requires
     read-setup-requires
+    read-dirty-requires
     returns)

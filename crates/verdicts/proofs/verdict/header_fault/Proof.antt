@@ -7,8 +7,11 @@ use borrow.Author.Needs.{needs}
 use Rattle.verdicts.proofs.verdict.header_fault.Statement.{statement}
 use Rattle.verdicts.proofs.verdict.header_fault.Tie as tie
 
+unlink-fault-requires : tie.Need-unlink-fault-requires
+unlink-fault-requires c κs = search needs
+
 returns : tie.Need-returns
-returns c = rw (c .if1 .taken)
+returns c = rw (c .before .if1 .taken) (c .unlink-fault .ensures)
 
 faulty-requires : tie.Need-faulty-requires
 faulty-requires c κs = search needs
@@ -30,7 +33,7 @@ returns-3 c =
     let e2 = v .before .before in
     let a = e2 .before .before .before .before .args in
     let o = reading-first (first (transferTests (a .h .transfer))) (some (g .0 .0)) (v .transfer-fault .result) (v .transfer-fault .ensures) (g .1) in
-    rw (submit-first (a .h) (a .taken) (e2 .if2 .left), o)
+    rw (submit-first (a .h) (a .devid) (a .taken) (e2 .if2 .left), o)
 
 enum-told : tie.Need-enum-told
 enum-told c = search needs
@@ -46,7 +49,7 @@ returns-4 c =
     let e2 = v .before .before in
     let a = e2 .before .before .before .before .args in
     let o = reading-first (first (transferTests (a .h .transfer))) none (v .transfer-fault .result) (v .transfer-fault .ensures) (k .enum-told .given .1) in
-    rw (c .faulty2 .ensures, submit-first (a .h) (a .taken) (e2 .if2 .left), o, c .before .if3 .taken)
+    rw (c .faulty2 .ensures, submit-first (a .h) (a .devid) (a .taken) (e2 .if2 .left), o, c .before .if3 .taken)
 
 returns-5 : tie.Need-returns-5
 unfolding decide
@@ -56,12 +59,13 @@ returns-5 c =
     let e2 = v .before .before in
     let a = e2 .before .before .before .before .args in
     let o = reading-first (first (transferTests (a .h .transfer))) none (v .transfer-fault .result) (v .transfer-fault .ensures) (k .enum-told .given .1) in
-    rw (submit-first (a .h) (a .taken) (e2 .if2 .left), o, c .if3 .left)
+    rw (submit-first (a .h) (a .devid) (a .taken) (e2 .if2 .left), o, c .if3 .left)
 
 pub header-fault-spec : {M : Type 1} → statement M
 header-fault-spec =
     tie.close
     (tie.spec
+    unlink-fault-requires
     returns
     faulty-requires
     returns-2
