@@ -57,19 +57,19 @@ static void report_submit(const struct report *r, const struct rimemaple_event *
 }
 
 /* A request is at fault at its 8th byte, with 10 or 11; a message at its 48th. */
-static void report_break(const struct report *r, uint32_t number, size_t dropped)
+static void report_break(const struct report *r, const struct rimemaple_event *e, size_t dropped)
 {
     const uint8_t *t = r->tail;
 
     if (r->events[RIMEMAPLE_IMPORT] == 0)
         log_line(r->connection,
-                 "BREAK %" PRIu32 ", dropped %zu tickets; version %04" PRIx32 " code %04" PRIx32 " status %08" PRIx32,
-                 number, dropped, be32(t + REQUEST) >> 16, be32(t + REQUEST) & 0xffff, be32(t + REQUEST_STATUS));
+                 "BREAK %" PRIu32 " at %zu, dropped %zu tickets; version %04" PRIx32 " code %04" PRIx32 " status %08" PRIx32,
+                 e->number, e->at, dropped, be32(t + REQUEST) >> 16, be32(t + REQUEST) & 0xffff, be32(t + REQUEST_STATUS));
     else
         log_line(r->connection,
-                 "BREAK %" PRIu32 ", dropped %zu tickets; command %" PRIu32 " seq %" PRIu32 " %s ep %" PRIu32
+                 "BREAK %" PRIu32 " at %zu, dropped %zu tickets; command %" PRIu32 " seq %" PRIu32 " %s ep %" PRIu32
                  " len %" PRIu32 " packets %" PRIu32,
-                 number, dropped, be32(t + COMMAND), be32(t + SEQNUM), direction_name(be32(t + DIRECTION)),
+                 e->number, e->at, dropped, be32(t + COMMAND), be32(t + SEQNUM), direction_name(be32(t + DIRECTION)),
                  be32(t + EP), be32(t + LENGTH), be32(t + PACKETS));
 }
 
@@ -98,7 +98,7 @@ static void report_event(const struct report *r, const struct rimemaple_fed *fed
                      e->seqnum, e->status, e->removed);
         break;
     case RIMEMAPLE_BREAK:
-        report_break(r, e->number, fed->dropped.count);
+        report_break(r, e, fed->dropped.count);
         break;
     case RIMEMAPLE_REFUSED:
         log_line(r->connection, "UNEXPECTED: a feed is REFUSED %" PRIu32, e->number);

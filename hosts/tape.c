@@ -109,7 +109,7 @@ static void put_event(FILE *lines, const struct rimemaple_fed *fed)
         fprintf(lines, "unlink %" PRIu32 " %" PRId32 "\n", e->seqnum, e->status);
         break;
     case RIMEMAPLE_BREAK:
-        fprintf(lines, "broken %" PRIu32 "\n", e->number);
+        fprintf(lines, "broken %" PRIu32 " at %zu\n", e->number, e->at);
         put_dropped(lines, &fed->dropped);
         break;
     case RIMEMAPLE_REFUSED:

@@ -23,7 +23,7 @@ extern "C" {
 #endif
 
 /* The version of this face: it rises with each change of a function, a struct or an answer. */
-#define RIMEMAPLE_VERSION 3
+#define RIMEMAPLE_VERSION 4
 
 /* The limits (docs/PROTOCOL.md, 5). */
 #define RIMEMAPLE_MAX_DEVICES 16
@@ -48,7 +48,7 @@ extern "C" {
 #define RIMEMAPLE_SUBMIT 3   /* accepted: the device starts event.ticket; nothing is sent yet */
 #define RIMEMAPLE_ANSWER 4   /* a submit refused with event.status: -19, -22 or -12; its RET_SUBMIT is the reply */
 #define RIMEMAPLE_UNLINK 5   /* its RET_UNLINK is the reply; event.removed is the ticket to cancel, 0 if none */
-#define RIMEMAPLE_BREAK 6    /* the stream is at fault with event.number, 10 to 18; the session is closed: hang up */
+#define RIMEMAPLE_BREAK 6    /* the stream is at fault with event.number, 10 to 18, at byte event.at of its message; the session is closed: hang up */
 #define RIMEMAPLE_REFUSED 7  /* nothing changed: event.number is 1 or 3 */
 
 /* Refusals, by number: nothing changed, and no byte was written. */
@@ -180,6 +180,7 @@ struct rimemaple_event {
     uint32_t number;                     /* BREAK, REFUSED */
     int32_t status;                      /* IMPORT, ANSWER, UNLINK */
     uint32_t seqnum;                     /* ANSWER, UNLINK: the message's own */
+    size_t at;                           /* BREAK: the byte of the request or message at which the fault stands, from 0 on */
     uint64_t removed;                    /* UNLINK: the ticket to cancel */
     uint64_t ticket;                     /* SUBMIT: by which the device knows the URB, from 1 on, never used twice */
     struct rimemaple_transfer transfer;  /* SUBMIT */

@@ -264,11 +264,12 @@ static int tickets_left(const struct rimemaple_tickets *t)
     return right;
 }
 
-static int breaks_with(const uint8_t *message, uint32_t number)
+static int breaks_with(const uint8_t *message, uint32_t number, size_t at)
 {
     struct rimemaple_fed fed =
         rimemaple_feed(session, message, RIMEMAPLE_HEADER_LEN, work, sizeof work, reply, sizeof reply);
-    return fed.event.kind == RIMEMAPLE_BREAK && fed.event.number == number && fed.length == 0 && tickets_left(&fed.dropped);
+    const struct rimemaple_event *e = &fed.event;
+    return e->kind == RIMEMAPLE_BREAK && e->number == number && e->at == at && fed.length == 0 && tickets_left(&fed.dropped);
 }
 
 static void unlinks_break(void)
@@ -276,16 +277,18 @@ static void unlinks_break(void)
     uint8_t message[RIMEMAPLE_HEADER_LEN];
     put_unlink(message, 0x01020306);
     message[11] ^= 1;
-    check("break 18", breaks_with(message, RIMEMAPLE_BAD_DEVID));
+    check("break 18", breaks_with(message, RIMEMAPLE_BAD_DEVID, 8));
     message[47] = 1;
-    check("break 17", breaks_with(message, RIMEMAPLE_DIRTY_PADDING));
+    check("break 17", breaks_with(message, RIMEMAPLE_DIRTY_PADDING, 47));
+    message[15] = 1;
+    check("its first byte", breaks_with(message, RIMEMAPLE_DIRTY_PADDING, 15));
 }
 
 static void breaks(void)
 {
     static const uint8_t message[RIMEMAPLE_HEADER_LEN] = {0, 0, 0, 9};
     struct rimemaple_fed fed = rimemaple_feed(session, message, sizeof message, work, sizeof work, reply, sizeof reply);
-    check("break 12", fed.event.kind == RIMEMAPLE_BREAK && fed.event.number == RIMEMAPLE_BAD_COMMAND);
+    check("break 12", fed.event.kind == RIMEMAPLE_BREAK && fed.event.number == RIMEMAPLE_BAD_COMMAND && fed.event.at == 0);
     check("what it drops", tickets_left(&fed.dropped));
     check("closed", fed.session.link.phase == 2 && rimemaple_devid(fed.session) == 0);
     fed = rimemaple_feed(fed.session, message, sizeof message, work, sizeof work, reply, sizeof reply);

@@ -146,6 +146,7 @@ static void print_event(void)
     FIELD(event, number);
     FIELD(event, status);
     FIELD(event, seqnum);
+    FIELD(event, at);
     FIELD(event, removed);
     FIELD(event, ticket);
     FIELD(event, transfer);

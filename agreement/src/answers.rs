@@ -30,10 +30,15 @@ fn event(event: session::Event) -> Result<Event, Refusal> {
             status,
             removed,
         }),
-        session::Event::Broken { reason, dropped } => {
+        session::Event::Broken {
+            reason,
+            offset,
+            dropped,
+        } => {
             let fault = Fault::from(u32::from(reason.number()));
             let dropped = tickets(&dropped);
-            Ok(Event::Break { fault, dropped })
+            let at = offset;
+            Ok(Event::Break { fault, at, dropped })
         }
         session::Event::Refused(number) => Err(refusal(number)),
     }

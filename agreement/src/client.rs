@@ -114,9 +114,10 @@ fn any_unlink(random: &mut Random, seqnum: u32, devid: u32) -> Vec<u8> {
         false => devid,
     };
     let mut message = unlink(seqnum, devid, random.below(seqnum as usize + 1) as u32);
-    if random.chance(3) {
+    if random.chance(4) {
         let padding: Vec<usize> = (12..20).chain(24..48).collect();
-        message[random.pick(&padding)] ^= 1 << random.below(8);
+        let any = random.pick(&padding);
+        message[random.pick(&[12, 19, 24, 47, any, any])] ^= 1 << random.below(8);
     }
     message
 }

@@ -31,7 +31,7 @@ impl Reached {
 }
 
 /// The kinds of a feed's answer.
-pub const FEEDS: [&str; 21] = [
+pub const FEEDS: [&str; 27] = [
     "hungry",
     "list",
     "import 0",
@@ -42,18 +42,33 @@ pub const FEEDS: [&str; 21] = [
     "answer -12",
     "unlink -104",
     "unlink 0",
-    "break 10",
-    "break 11",
-    "break 12",
-    "break 13",
-    "break 14",
-    "break 15",
-    "break 16",
-    "break 17",
-    "break 18",
+    "break 10 at 0",
+    "break 11 at 2",
+    "break 12 at 0",
+    "break 13 at 12",
+    "break 14 at 24",
+    "break 15 at 32",
+    "break 16 at 4",
+    "break 17 at 4",
+    "break 17 at 12",
+    "break 17 at 13 to 18",
+    "break 17 at 19",
+    "break 17 at 24",
+    "break 17 at 25 to 46",
+    "break 17 at 47",
+    "break 18 at 8",
     "refused 1",
     "refused 3",
 ];
+
+/// A break by number; of an unlink's padding, where the faulty byte stands, the first and the last byte of each part apart.
+fn break_kind(number: u32, at: usize) -> String {
+    match (number, at) {
+        (17, 13..=18) => "break 17 at 13 to 18".to_string(),
+        (17, 25..=46) => "break 17 at 25 to 46".to_string(),
+        _ => format!("break {number} at {at}"),
+    }
+}
 
 /// Which of them it is.
 pub fn feed_kind(answer: &Result<Fed, Refusal>) -> String {
@@ -66,7 +81,7 @@ pub fn feed_kind(answer: &Result<Fed, Refusal>) -> String {
             Event::Submit { .. } => "accepted".to_string(),
             Event::Answer { status, .. } => format!("answer {status}"),
             Event::Unlink { status, .. } => format!("unlink {status}"),
-            Event::Break { fault, .. } => format!("break {}", fault.number()),
+            Event::Break { fault, at, .. } => break_kind(fault.number(), at),
         },
     }
 }

@@ -129,8 +129,12 @@ impl<W: Write> Player<W> {
             Event::Accepted(urb) => writeln!(output, "submit {} {}", urb.ticket, urb.seqnum),
             Event::RefusedSubmit { seqnum, status } => writeln!(output, "answer {seqnum} {status}"),
             Event::Unlink { seqnum, status, .. } => writeln!(output, "unlink {seqnum} {status}"),
-            Event::Broken { reason, dropped } => {
-                writeln!(output, "broken {}", reason.number())?;
+            Event::Broken {
+                reason,
+                offset,
+                dropped,
+            } => {
+                writeln!(output, "broken {} at {offset}", reason.number())?;
                 self.write_dropped(dropped)
             }
             Event::Refused(refusal) => writeln!(output, "refused {}", refusal.number()),

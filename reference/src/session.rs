@@ -50,6 +50,8 @@ pub enum Event {
     },
     Broken {
         reason: Break,
+        /// Of the faulty byte, within its request or message.
+        offset: usize,
         dropped: Vec<u64>,
     },
     Refused(Refusal),
@@ -248,14 +250,14 @@ impl Session {
             return HUNGRY;
         }
         if be16(&self.head, 0) != wire::USBIP_VERSION {
-            return self.break_with(Break::Version);
+            return self.break_at(0, Break::Version);
         }
         let code = be16(&self.head, 2);
         if ![wire::OP_REQ_DEVLIST, wire::OP_REQ_IMPORT].contains(&code) {
-            return self.break_with(Break::Code);
+            return self.break_at(2, Break::Code);
         }
         if be32(&self.head, 4) != 0 {
-            return self.break_with(Break::Padding);
+            return self.break_at(4, Break::Padding);
         }
         match code {
             wire::OP_REQ_DEVLIST => self.list(),
@@ -290,14 +292,14 @@ impl Session {
             return HUNGRY;
         }
         let submit = match Command::read(&self.head) {
-            None => return self.break_with(Break::Command),
+            None => return self.break_at(0, Break::Command),
             Some(Command::Unlink(unlink)) => return self.read_unlink(&unlink, devid),
             Some(Command::Submit(submit)) => submit,
         };
         // Breaks come with the 48th byte and never later.
         if !header_was_in {
-            if let Err(reason) = self.check_submit(&submit) {
-                return self.break_with(reason);
+            if let Err((offset, reason)) = self.check_submit(&submit) {
+                return self.break_at(offset, reason);
             }
         }
         if !self.fill_work(submit.data_size(), rest, work) {
@@ -307,24 +309,25 @@ impl Session {
     }
 
     fn read_unlink(&mut self, unlink: &CmdUnlink, devid: u32) -> Answer {
-        if CmdUnlink::has_dirty_padding(&self.head) {
-            self.break_with(Break::Padding)
+        if let Some(offset) = CmdUnlink::dirty_padding(&self.head) {
+            self.break_at(offset, Break::Padding)
         } else if unlink.devid != devid {
-            self.break_with(Break::Devid)
+            self.break_at(0x08, Break::Devid)
         } else {
             self.unlink(unlink)
         }
     }
 
-    fn check_submit(&self, submit: &CmdSubmit) -> Result<(), Break> {
+    /// The first fault, and the offset of its field.
+    fn check_submit(&self, submit: &CmdSubmit) -> Result<(), (usize, Break)> {
         if ![USBIP_DIR_OUT, USBIP_DIR_IN].contains(&submit.direction) {
-            Err(Break::Direction)
+            Err((0x0c, Break::Direction))
         } else if submit.transfer_buffer_length > MAX_TRANSFER_BUFFER_LENGTH {
-            Err(Break::TransferBufferLength)
+            Err((0x18, Break::TransferBufferLength))
         } else if ![0, NOT_ISOCHRONOUS].contains(&submit.number_of_packets) {
-            Err(Break::NumberOfPackets)
+            Err((0x20, Break::NumberOfPackets))
         } else if self.find_seqnum(submit.seqnum).is_some() {
-            Err(Break::Seqnum)
+            Err((0x04, Break::Seqnum))
         } else {
             Ok(())
         }
@@ -386,9 +389,14 @@ impl Session {
         self.pending.iter().position(|urb| urb.seqnum == seqnum)
     }
 
-    fn break_with(&mut self, reason: Break) -> Answer {
+    fn break_at(&mut self, offset: usize, reason: Break) -> Answer {
         let dropped = self.end();
-        (Event::Broken { reason, dropped }, Vec::new())
+        let event = Event::Broken {
+            reason,
+            offset,
+            dropped,
+        };
+        (event, Vec::new())
     }
 
     fn end(&mut self) -> Vec<u64> {

@@ -140,10 +140,11 @@ impl CmdUnlink {
         }
     }
 
-    /// Whether a byte isn't 0 that has to be: of direction or ep, or after unlink_seqnum.
-    pub fn has_dirty_padding(header: &[u8]) -> bool {
+    /// The offset of the first byte that isn't 0 and has to be: of direction or ep, or after
+    /// unlink_seqnum.
+    pub fn dirty_padding(header: &[u8]) -> Option<usize> {
         let mut padding = (0x0c..0x14).chain(0x18..HEADER_SIZE);
-        padding.any(|offset| header[offset] != 0)
+        padding.find(|&offset| header[offset] != 0)
     }
 
     pub fn header(&self) -> [u8; HEADER_SIZE] {
@@ -366,7 +367,12 @@ mod tests {
             let mut header = CmdUnlink::default().header();
             header[offset] = 1;
             let padding = matches!(offset, 12..=19 | 24..=47);
-            assert_eq!(CmdUnlink::has_dirty_padding(&header), padding, "{offset}");
+            let dirty = padding.then_some(offset);
+            assert_eq!(CmdUnlink::dirty_padding(&header), dirty, "{offset}");
+            header[offset..].fill(0xff);
+            if padding {
+                assert_eq!(CmdUnlink::dirty_padding(&header), dirty, "{offset} and on");
+            }
         }
     }
 

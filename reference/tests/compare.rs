@@ -161,7 +161,7 @@ mod known_exchanges {
              feed 48 0 -\n\
              record 1 1 1 1 0 16384 0 0 0 0000000000000000\n\
              data -\n\
-             broken 14\n\
+             broken 14 at 24\n\
              dropped 1\n\
              feed 48 0 -\n\
              end 1 0 0 0 1\n",

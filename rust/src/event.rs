@@ -48,6 +48,8 @@ pub enum Event {
     Break {
         /// What is wrong.
         fault: Fault,
+        /// The byte of the request or message at which the fault stands, from 0 on.
+        at: usize,
         /// What was pending: to be cancelled.
         dropped: Tickets,
     },
@@ -73,6 +75,7 @@ impl Event {
             },
             sys::BREAK => Event::Break {
                 fault: Fault::from(event.number),
+                at: event.at,
                 dropped: Tickets::from(dropped),
             },
             sys::REFUSED => return Err(Refusal::from(event.number)),
@@ -105,8 +108,8 @@ impl fmt::Display for Event {
                     None => Ok(()),
                 }
             }
-            Event::Break { fault, dropped } => {
-                write!(f, "{fault}")?;
+            Event::Break { fault, at, dropped } => {
+                fault.write_at(f, *at)?;
                 dropped
                     .iter()
                     .try_for_each(|ticket| write!(f, ", dropped {ticket}"))

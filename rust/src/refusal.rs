@@ -91,6 +91,12 @@ impl Fault {
     pub const fn number(self) -> u32 {
         self.0
     }
+
+    /// As it prints, with the byte at which it stands.
+    pub(crate) fn write_at(self, f: &mut fmt::Formatter, at: usize) -> fmt::Result {
+        write!(f, "broken {} at {at}", self.0)?;
+        write_words(f, self.0, &FAULTS)
+    }
 }
 
 impl From<u32> for Refusal {
@@ -107,15 +113,15 @@ impl From<u32> for Fault {
 
 impl fmt::Display for Refusal {
     fn fmt(&self, f: &mut fmt::Formatter) -> fmt::Result {
-        write!(f, "refused ")?;
-        write_number(f, self.0, &REFUSALS)
+        write!(f, "refused {}", self.0)?;
+        write_words(f, self.0, &REFUSALS)
     }
 }
 
 impl fmt::Display for Fault {
     fn fmt(&self, f: &mut fmt::Formatter) -> fmt::Result {
-        write!(f, "broken ")?;
-        write_number(f, self.0, &FAULTS)
+        write!(f, "broken {}", self.0)?;
+        write_words(f, self.0, &FAULTS)
     }
 }
 
@@ -123,10 +129,10 @@ impl error::Error for Refusal {}
 
 impl error::Error for Fault {}
 
-/// The number, and its words if the table has them.
-fn write_number(f: &mut fmt::Formatter, number: u32, table: &[(u32, &str)]) -> fmt::Result {
+/// The words of a number, if the table has them.
+fn write_words(f: &mut fmt::Formatter, number: u32, table: &[(u32, &str)]) -> fmt::Result {
     match table.iter().find(|row| row.0 == number) {
-        Some((_, words)) => write!(f, "{number}: {words}"),
-        None => write!(f, "{number}"),
+        Some((_, words)) => write!(f, ": {words}"),
+        None => Ok(()),
     }
 }

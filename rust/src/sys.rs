@@ -5,7 +5,7 @@
 //! compares every constant and the place and size of every field with the header's.
 
 /// The version of the face that is declared here.
-pub const VERSION: u32 = 3;
+pub const VERSION: u32 = 4;
 
 /// Devices of a table, at most.
 pub const MAX_DEVICES: usize = 16;
@@ -269,6 +269,8 @@ pub struct Event {
     pub status: i32,
     /// An answer's or an unlink's own seqnum.
     pub seqnum: u32,
+    /// The byte of the request or message at which a fault stands.
+    pub at: usize,
     /// The ticket that an unlink cancels.
     pub removed: u64,
     /// An accepted submit's ticket.

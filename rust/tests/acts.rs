@@ -148,10 +148,10 @@ fn an_unlink_may_come_too_late() {
 #[test]
 fn a_break_tells_the_fault_and_what_it_drops() {
     let mut host = Host::with_pending(3);
-    let Event::Break { fault, dropped } = host.event(&header(&[5])) else {
+    let Event::Break { fault, at, dropped } = host.event(&header(&[5])) else {
         panic!("not broken");
     };
-    assert_eq!(fault, Fault::BAD_COMMAND);
+    assert_eq!((fault, at), (Fault::BAD_COMMAND, 0));
     assert_eq!(*dropped, [1, 2, 3]);
     assert_eq!(host.session.devid(), None);
 }

@@ -25,6 +25,7 @@ fn event(kind: u32, number: u32, status: i32, seqnum: u32, removed: u64) -> Even
         number,
         status,
         seqnum,
+        at: 0,
         removed,
         ticket: 0,
         transfer: NO_TRANSFER,
@@ -87,7 +88,13 @@ fn what_an_event_does_not_have_is_0() {
         (&unlink(9, 7), event(sys::UNLINK, 0, -104, 9, 1)),
         (&unlink(9, 7), event(sys::UNLINK, 0, 0, 9, 0)),
         (&submit(7, 64), accepted(2)),
-        (&submit(7, 64), event(sys::BREAK, 16, 0, 0, 0)),
+        (
+            &submit(7, 64),
+            Event {
+                at: 4,
+                ..event(sys::BREAK, 16, 0, 0, 0)
+            },
+        ),
         (&submit(7, 64), event(sys::REFUSED, 3, 0, 0, 0)),
     ] {
         let fed = feed(session, piece);

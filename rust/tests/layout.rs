@@ -63,7 +63,7 @@ structs! {
     Pending { urbs count }
     Session { table link pending }
     Tickets { tickets count }
-    Event { kind number status seqnum removed ticket transfer setup }
+    Event { kind number status seqnum at removed ticket transfer setup }
     Opened { session refusal }
     Fed { session event consumed length dropped }
     Completed { session refusal status length }

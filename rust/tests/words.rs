@@ -98,7 +98,7 @@ fn an_event_is_one_line() {
         ),
         (
             &header(&[1, 12, DEVID, 2]),
-            "broken 13: direction not 0 or 1, dropped 2, dropped 3",
+            "broken 13 at 12: direction not 0 or 1, dropped 2, dropped 3",
         ),
     ] {
         assert_eq!(host.event(piece).to_string(), line);

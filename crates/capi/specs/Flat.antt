@@ -59,13 +59,14 @@ BREAK = 6
 abbrev pub REFUSED : ℕ
 REFUSED = 7
 
-abbrev pub eventRow : (kind number status seqnum removed ticket : ℕ) → Transfer → (setup : List ℕ) → FlatEvent
-eventRow kind number status seqnum removed ticket transfer setup =
+abbrev pub eventRow : (kind number status seqnum at removed ticket : ℕ) → Transfer → (setup : List ℕ) → FlatEvent
+eventRow kind number status seqnum at removed ticket transfer setup =
     record {
       kind = kind;
       number = number;
       status = status;
       seqnum = seqnum;
+      at = at;
       removed = removed;
       ticket = ticket;
       transfer = transfer;
@@ -77,16 +78,16 @@ abbrev pub removedTicket : Removed → ℕ
 removedTicket (Ticket t) = t
 removedTicket Nothing = 0
 
--- What an event doesn't have is 0.     kind    number      status  seqnum  removed            ticket  transfer
+-- What an event doesn't have is 0.     kind    number      status  seqnum  at      removed            ticket  transfer
 abbrev pub flatEvent : Event → List ℕ → FlatEvent
-flatEvent Hungry setup = eventRow HUNGRY 0 0 0 0 0 noTransfer setup
-flatEvent Listed setup = eventRow LIST 0 0 0 0 0 noTransfer setup
-flatEvent (Import st) setup = eventRow IMPORT 0 st 0 0 0 noTransfer setup
-flatEvent (Submit t u) setup = eventRow SUBMIT 0 0 0 0 t u setup
-flatEvent (Answer q st) setup = eventRow ANSWER 0 st q 0 0 noTransfer setup
-flatEvent (Unlink q st r) setup = eventRow UNLINK 0 st q (removedTicket r) 0 noTransfer setup
-flatEvent (Break f) setup = eventRow BREAK (f .number) 0 0 0 0 noTransfer setup
-flatEvent (Refused n) setup = eventRow REFUSED n 0 0 0 0 noTransfer setup
+flatEvent Hungry setup = eventRow HUNGRY 0 0 0 0 0 0 noTransfer setup
+flatEvent Listed setup = eventRow LIST 0 0 0 0 0 0 noTransfer setup
+flatEvent (Import st) setup = eventRow IMPORT 0 st 0 0 0 0 noTransfer setup
+flatEvent (Submit t u) setup = eventRow SUBMIT 0 0 0 0 0 t u setup
+flatEvent (Answer q st) setup = eventRow ANSWER 0 st q 0 0 0 noTransfer setup
+flatEvent (Unlink q st r) setup = eventRow UNLINK 0 st q 0 (removedTicket r) 0 noTransfer setup
+flatEvent (Break f) setup = eventRow BREAK (f .number) 0 0 (f .at) 0 0 noTransfer setup
+flatEvent (Refused n) setup = eventRow REFUSED n 0 0 0 0 0 noTransfer setup
 
 -- ## What the acts hand back: 0, or a refusal's number
 
@@ -161,7 +162,7 @@ bytesAt p header payload = take (p .length) (drop (p .at) (cond (eqb (p .slice) 
 
 -- It rises with each change of a function, a struct or an answer.
 abbrev pub FACE-VERSION : ℕ
-FACE-VERSION = 3
+FACE-VERSION = 4
 
 abbrev pub flatLimits : FlatLimits
 flatLimits =

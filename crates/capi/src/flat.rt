@@ -7,6 +7,7 @@ use events::answer::Removed;
 use messages::message::Transfer;
 use pending::list::Tickets;
 use session::state::Session;
+use verdicts::verdict::Fault;
 use wire::codes::SETUP_LEN;
 ghost use mathlib.Core.Path.{_≡_};
 ghost use Rattle.pending.specs.Pending.{noTransfer};
@@ -31,13 +32,15 @@ pub const BREAK: u32 = 6;
 pub const REFUSED: u32 = 7;
 
 // An event: its kind; the number of a refusal or a break; an import's, answer's or unlink's status; an answer's or unlink's seqnum;
-// the ticket that an unlink removed, 0 if none; an accepted submit's ticket, transfer and setup bytes. What an event doesn't have is 0.
+// the byte of its message at which a break's fault stands; the ticket that an unlink removed, 0 if none; an accepted submit's ticket,
+// transfer and setup bytes. What an event doesn't have is 0.
 #[repr(C)]
 pub struct FlatEvent {
     pub kind: u32,
     pub number: u32,
     pub status: u32,
     pub seqnum: u32,
+    pub at: usize,
     pub removed: u64,
     pub ticket: u64,
     pub transfer: Transfer,
@@ -101,13 +104,14 @@ fn no_transfer() -> Transfer
 
 // An event that has nothing but its kind.
 fn bare(kind: u32, setup: [u8; SETUP_LEN]) -> FlatEvent
-    ensures { λ r. ⌜ r ≡ eventRow kind 0 0 0 0 0 noTransfer setup ⌝ }
+    ensures { λ r. ⌜ r ≡ eventRow kind 0 0 0 0 0 0 noTransfer setup ⌝ }
 {
     FlatEvent {
         kind: kind,
         number: 0,
         status: 0,
         seqnum: 0,
+        at: 0,
         removed: 0,
         ticket: 0,
         transfer: no_transfer(),
@@ -126,7 +130,7 @@ fn removed_ticket(removed: Removed) -> u64
 
 // One that has a number.
 fn numbered(kind: u32, number: u32, setup: [u8; SETUP_LEN]) -> FlatEvent
-    ensures { λ r. ⌜ r ≡ eventRow kind number 0 0 0 0 noTransfer setup ⌝ }
+    ensures { λ r. ⌜ r ≡ eventRow kind number 0 0 0 0 0 noTransfer setup ⌝ }
 {
     let e = bare(kind, setup);
     FlatEvent {
@@ -135,9 +139,17 @@ fn numbered(kind: u32, number: u32, setup: [u8; SETUP_LEN]) -> FlatEvent
     }
 }
 
+// A break: its fault's number and place.
+fn broken(fault: Fault, setup: [u8; SETUP_LEN]) -> FlatEvent
+    ensures { λ r. ⌜ r ≡ eventRow Flat.BREAK (fault .number) 0 0 (fault .at) 0 0 noTransfer setup ⌝ }
+{
+    let e = numbered(BREAK, fault.number, setup);
+    FlatEvent { at: fault.at, ..e }
+}
+
 // One that has a status, and what stands beside it.
 fn answered(kind: u32, status: u32, seqnum: u32, removed: u64, setup: [u8; SETUP_LEN]) -> FlatEvent
-    ensures { λ r. ⌜ r ≡ eventRow kind 0 status seqnum removed 0 noTransfer setup ⌝ }
+    ensures { λ r. ⌜ r ≡ eventRow kind 0 status seqnum 0 removed 0 noTransfer setup ⌝ }
 {
     let e = bare(kind, setup);
     FlatEvent {
@@ -149,7 +161,7 @@ fn answered(kind: u32, status: u32, seqnum: u32, removed: u64, setup: [u8; SETUP
 }
 
 fn accepted(ticket: u64, transfer: Transfer, setup: [u8; SETUP_LEN]) -> FlatEvent
-    ensures { λ r. ⌜ r ≡ eventRow Flat.SUBMIT 0 0 0 0 ticket transfer setup ⌝ }
+    ensures { λ r. ⌜ r ≡ eventRow Flat.SUBMIT 0 0 0 0 0 ticket transfer setup ⌝ }
 {
     let e = bare(SUBMIT, setup);
     FlatEvent {
@@ -172,7 +184,7 @@ pub(crate) fn flat_event(event: Event, setup: [u8; SETUP_LEN]) -> FlatEvent
             let ticket = removed_ticket(removed);
             answered(UNLINK, status, seqnum, ticket, setup)
         }
-        Event::Break(fault) => numbered(BREAK, fault.number, setup),
+        Event::Break(fault) => broken(fault, setup),
         Event::Refused(n) => numbered(REFUSED, n, setup),
     }
 }

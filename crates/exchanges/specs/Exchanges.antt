@@ -189,7 +189,7 @@ exchanges =
       table = tapeTable;
       before = attached ∷ fed (intrIn 0xd05 0x0001000f 1 64) ∷ [];
       last = intrIn 0xd06 0x0001000f 1 16385;
-      seen = record { event = done (break (fault 14) (1 ∷ [])); bytes = reply []; closed = true; numbers = counts 1 0 0 0 1 };
+      seen = record { event = done (break (fault 14 24) (1 ∷ [])); bytes = reply []; closed = true; numbers = counts 1 0 0 0 1 };
     }
     -- the highest endpoint, and one more
     ∷ record {

@@ -1,7 +1,7 @@
 -- A table of tests decides as the table of conditions says, where each test holds exactly when its condition does.
 use Prim.Native.Nat.{ℕ}
 use native.Mathlib.Omega.{arith}
-use mathlib.Core.Path.{_≡_, refl, sym, _∙_}
+use mathlib.Core.Path.{_≡_, refl, sym, subst, _∙_}
 use mathlib.Core.Logic.{_↔_, _⊎_, inl, inr, ⊎-elim}
 use mathlib.Core.Bool.{Bool, true, false, cond, _||_, true≢false}
 use mathlib.Core.List.{List, [], _∷_, _++_}
@@ -101,6 +101,15 @@ module _ {A : Type 0} where
 -- ## One answer
 
 module _ {A : Type 0} where
+  -- what each row's answer has where the row holds, the answer that is given has
+  abbrev pub EachHas : (A → Type 0) → List (Row A) → Type 0
+  EachHas P [] = Unit
+  EachHas P (r ∷ rs) = (r .when → P (r .answer)) × EachHas P rs
+
+  pub given-has : (P : A → Type 0) (rs : List (Row A)) (a : A) → EachHas P rs → Gives rs a → P a
+  given-has P [] a e g = absurd g
+  given-has P (r ∷ rs) a e g = ⊎-elim (λ p. subst P (sym (p .1)) (e .0 (p .0))) (λ p. given-has P rs a (e .1) (p .1)) g
+
   pub not-clear : {B : Type 0} (rs : List (Row A)) (a : A) → Clear rs → Gives rs a → B
   not-clear [] a y g = absurd g
   not-clear (r ∷ rs) a y g = ⊎-elim (λ p. absurd (y .0 (p .0))) (λ p. not-clear rs a (y .1) (p .1)) g

@@ -36,10 +36,10 @@ pub other-lines :
     ++ feedLines (done list)
     ++ feedLines (done (answer 3334 (minus Codes.ENODEV)))
     ++ feedLines (done (unlink 3335 (minus Codes.ECONNRESET) (some 1)))
-    ++ feedLines (done (break (fault 12) (2 ∷ 10 ∷ [])))
+    ++ feedLines (done (break (fault 12 0) (2 ∷ 10 ∷ [])))
     ++ completionLines 2 63 (done (record { wire = 111; status = minus Codes.EREMOTEIO }))
     ++ completionLines 1 64 (refused 3)
     ++ closeLines (done (4 ∷ []))
-    ≡ ascii "list\nanswer 3334 -19\nunlink 3335 -104\nbroken 12\ndropped 2\ndropped 10\nreturn 2 -121 63\nrefused 3\nclosed\ndropped 4\n"
+    ≡ ascii "list\nanswer 3334 -19\nunlink 3335 -104\nbroken 12 at 0\ndropped 2\ndropped 10\nreturn 2 -121 63\nrefused 3\nclosed\ndropped 4\n"
 unfolding Digits.numeral Digits.digits
 other-lines = refl

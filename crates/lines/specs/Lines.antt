@@ -25,7 +25,7 @@ eventLines (import status) = line "import" (decimal status ∷ [])
 eventLines (submit u) = line "submit" (decimal (ticketOf u) ∷ decimal (seqnumOf u) ∷ [])
 eventLines (answer seqnum status) = line "answer" (decimal seqnum ∷ statusText status ∷ [])
 eventLines (unlink seqnum status removed) = line "unlink" (decimal seqnum ∷ statusText status ∷ [])
-eventLines (break fault tickets) = line "broken" (decimal (fault .number) ∷ []) ++ joined droppedLine tickets
+eventLines (break fault tickets) = line "broken" (decimal (fault .number) ∷ ascii "at" ∷ decimal (fault .at) ∷ []) ++ joined droppedLine tickets
 
 abbrev pub feedLines : Outcome Event → List ℕ
 feedLines o = outcomeLines eventLines o

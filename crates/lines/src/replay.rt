@@ -15,6 +15,7 @@ use numerals::text::with_number;
 use numerals::text::with_status;
 use pending::counts::Numbers;
 use pending::list::Tickets;
+use verdicts::verdict::Fault;
 ghost use Prim.Native.Nat.{ℕ, _+_, _≤_};
 ghost use mathlib.Core.List.{List, [], _∷_, _++_};
 ghost use lib.ListN.{length, take};
@@ -22,7 +23,7 @@ ghost use Rattle.ground.specs.Lists.{joined};
 ghost use Rattle.ground.specs.Writing.{Wrote};
 ghost use Rattle.limits.specs.Limits.{MAX-PENDING};
 ghost use Rattle.events.specs.Answers.{eventOf, completionOf, closingOf};
-ghost use Rattle.numerals.specs.Digits.{decimal, statusText};
+ghost use Rattle.numerals.specs.Digits.{ascii, decimal, statusText};
 ghost use Rattle.numerals.specs.Texts.{TEXT-LEN, WORD-LEN, LINE-LEN, DROPPED-LEN, lineOf, line, textOf, TextHolds};
 ghost use Rattle.lines.specs.Lines.{droppedLine, feedLines, completionLines, closeLines, endLine, badTapeLine};
 
@@ -75,6 +76,17 @@ fn return_line(ticket: u64, status: u32, actual: u32) -> Text
     ended(a)
 }
 
+// A fault, by its number and its place.
+fn broken_line(fault: Fault) -> Text
+    ensures { λ r. ⌜ TextHolds r (line "broken" (decimal (fault .number) ∷ ascii "at" ∷ decimal (fault .at) ∷ [])) LINE-LEN ⌝ }
+{
+    let w = begun(b"broken");
+    let n = with_number(w, fault.number as u64);
+    let a = added(n, b" at");
+    let t = with_number(a, fault.at as u64);
+    ended(t)
+}
+
 // One more line, of a ticket that was dropped.
 fn with_drop(t: Text, ticket: u64) -> Text
     requires { ⌜ t .len + DROPPED-LEN ≤ TEXT-LEN ⌝ }
@@ -123,7 +135,7 @@ fn event_text(event: Event, dropped: Tickets) -> Text
         Event::Answer(seqnum, status) => status_line(b"answer", seqnum, status),
         Event::Unlink(seqnum, status, _) => status_line(b"unlink", seqnum, status),
         Event::Break(fault) => {
-            let t = number_line(b"broken", fault.number as u64);
+            let t = broken_line(fault);
             with_dropped(t, dropped)
         }
         Event::Refused(n) => number_line(b"refused", n as u64),

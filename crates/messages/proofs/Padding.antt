@@ -10,7 +10,7 @@ use borrow.Author.Tests.{eqb-true, eqb-false, ltb-true, ltb-false, lt-ltb}
 use lib.Dec.{eqb, ltb}
 use lib.ListN.{getD}
 use Rattle.wire.specs.Codes
-use Rattle.messages.specs.Messages.{firstSet, dirtyOf, Padding, Dirty}
+use Rattle.messages.specs.Messages.{firstSet, dirtyOf, Padding, Dirty, FirstDirty}
 
 -- ## A walk from place to place
 
@@ -88,3 +88,9 @@ first-iff m at f = (
 
 pub dirty-iff : (m : List ℕ) → (ltb (dirtyOf m) Codes.HEADER-LEN ≡ true) ↔ Dirty m
 dirty-iff m = first-iff m (dirtyOf m) (dirty-first m)
+
+pub dirty-place : (m : List ℕ) → Dirty m → FirstDirty m (dirtyOf m)
+dirty-place m d =
+    let f = dirty-first m in
+    let p = f .1 (ltb-true (dirtyOf m) Codes.HEADER-LEN (dirty-iff m .1 d)) in
+    (p .0, p .1, f .0)

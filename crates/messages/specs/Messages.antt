@@ -64,6 +64,10 @@ Padding i = ((Codes.DIRECTION-AT ≤ i) × (i < Codes.UNLINK-SEQNUM-AT)) ⊎ ((C
 abbrev pub Dirty : List ℕ → Type 0
 Dirty m = (i : ℕ) × Padding i × (getD m i 0 ≡ 0 → ⊥)
 
+-- The first such byte: each byte of the padding before it is 0.
+abbrev pub FirstDirty : List ℕ → ℕ → Type 0
+FirstDirty m at = Padding at × (getD m at 0 ≡ 0 → ⊥) × ((j : ℕ) → Padding j → j < at → getD m j 0 ≡ 0)
+
 -- What stands in the place of a header while none is read: zeros.
 abbrev pub blankHeader : Header
 blankHeader =

@@ -15,6 +15,7 @@ use Rattle.messages.specs.Messages.{requestOf, busidOf, headerOf, bodyLen, unli
 use Rattle.messages.specs.declared.message.Header.{Header}
 use Rattle.messages.specs.declared.request.Request.{Request}
 use Rattle.messages.proofs.Headers.{request-stays, unlink-seqnum}
+use Rattle.messages.proofs.Padding.{dirty-place}
 use Rattle.exports.specs.declared.device.Table.{Table}
 use Rattle.lookup.specs.Lookup.{findIn}
 use Rattle.lookup.specs.declared.Found.{Found}
@@ -25,9 +26,10 @@ use Rattle.pending.specs.declared.urb.Urb.{Urb}
 use Rattle.pending.proofs.Finding.{find-some, find-none}
 use Rattle.limits.specs.Limits
 use Rattle.ground.specs.Tests.{first, by-first, by-test}
-use Rattle.ground.specs.Rows.{Clear}
+use Rattle.ground.specs.Rows.{Gives, Clear}
 use Rattle.verdicts.specs.Verdicts
-use Rattle.ground.proofs.Match.{gives, clear}
+use Rattle.verdicts.specs.declared.verdict.Fault.{Fault}
+use Rattle.ground.proofs.Match.{gives, clear, given-has}
 use Rattle.ground.proofs.Cases.{second, differ}
 use Rattle.verdicts.proofs.Tables.{request-match}
 use Rattle.model.specs.State.{Message, partly, headed, Sess}
@@ -35,7 +37,8 @@ use Rattle.model.specs.Answers.{Event, hungry}
 use Rattle.model.specs.Judging.{submitTestsOf, submitted, submitting, unlinks, headerTestsOf, wholeHeader, message, requested, lookedUp, imports, request}
 use Rattle.model.specs.Judging.{judge}
 use Rattle.model.specs.Book.{Book, Item, took, effectOf, pendingOf}
-use Rattle.model.specs.Claims.{header, messageLen, requestRowsBy, headerRowsBy, submitRowsBy, RightRequest, RightMessage, byPhase, Apart}
+use Rattle.model.specs.Claims.{header, messageLen, requestRowsBy, headerRowsBy, submitRowsBy, RightRequest, Placed, RightMessage, byPhase}
+use Rattle.model.specs.Claims.{Apart}
 use Rattle.model.proofs.Facts.{mem-to, mem-from, mem-found, apart-of}
 use Rattle.model.proofs.Tables.{header-match, submit-match}
 use Rattle.model.proofs.Steps.{messageIn, heading, bodied, bytes-in, short, one-more, sessionOf, Fit, Allowed}
@@ -186,6 +189,27 @@ free : (b : Book) (h : List ℕ) (devid : ℕ) → Clear (headerRowsBy devid (b 
 free b h devid y c =
     apart-of seqnumOf (headerOf h .transfer .seqnum) (pendingOf (b .items)) (λ u m e. y .1 .1 .1 .1 .0 (c, (u, mem-to u (b .items) m, e)))
 
+-- of the rows of a message 17 alone names a byte of its padding
+placed : (devid : ℕ) (is : List Item) (h : List ℕ) (f : Fault) → Gives (headerRowsBy devid is h) f → Placed h f
+placed devid is h f g =
+    given-has (Placed h) (headerRowsBy devid is h) f (
+      (λ _. other Limits.BAD-COMMAND refl),
+      (
+        (λ _. other Limits.BAD-DIRECTION refl),
+        (
+          (λ _. other Limits.BAD-LENGTH refl),
+          (
+            (λ _. other Limits.BAD-PACKETS refl),
+            ((λ _. other Limits.SEQNUM-PENDING refl), ((λ w _. dirty-place h (w .1)), ((λ _. other Limits.BAD-DEVID refl), tt))),
+          ),
+        ),
+      ),
+    )
+    g
+  where
+    other : {A : Type 0} (n : ℕ) → eqb n Limits.DIRTY-PADDING ≡ false → n ≡ Limits.DIRTY-PADDING → A
+    other n d e = absurd (eqb-false n Limits.DIRTY-PADDING d e)
+
 -- whatever device is attached
 any-devid : (is : List Item) (h : List ℕ) (d e : ℕ) → headerOf h .command ≡ Codes.CMD-SUBMIT → Clear (headerRowsBy d is h) → Clear (headerRowsBy e is h)
 any-devid is h d e c y =
@@ -253,7 +277,7 @@ module _ (t : Table) (phase devid : ℕ) (b : Book) (f : Fit phase b) (away : ph
       let m = header-match devid (b .items) d in
       let bare : length (b .part) - Codes.HEADER-LEN ≡ 0 = omega arith in
       by-first Said (first (headerTestsOf head devid (pendingOf (b .items))))
-      (λ f h. ((l, m .0 f h, refl), refl, λ p. differ (cc)))
+      (λ f h. ((l, m .0 f h, refl, placed devid (b .items) d f (m .0 f h)), refl, λ p. differ (cc)))
       λ h.
       let y = m .1 h in
       by-test Said

@@ -11,7 +11,7 @@ use lib.Seq.{sets}
 use Rattle.wire.specs.Codes
 use Rattle.wire.specs.Status.{minus}
 use Rattle.ground.specs.Writing.{over}
-use Rattle.messages.specs.Messages.{requestOf, busidOf, headerOf, Dirty, unlinkSeqnumOf, retSubmit, retUnlink}
+use Rattle.messages.specs.Messages.{requestOf, busidOf, headerOf, Dirty, FirstDirty, unlinkSeqnumOf, retSubmit, retUnlink}
 use Rattle.messages.specs.declared.message.Header.{Header}
 use Rattle.messages.specs.declared.message.Transfer.{Transfer}
 use Rattle.exports.specs.Devices.{noDevice, devicesOf}
@@ -138,6 +138,10 @@ abbrev pub Removes : List Item → ℕ → ℕ → Option ℕ → Type 0
 Removes is q st none = (st ≡ 0) × NonePending is seqnumOf q
 Removes is q st (some t) = (st ≡ minus Codes.ECONNRESET) × ((u : Urb) × Pending is u × (seqnumOf u ≡ q) × (ticketOf u ≡ t))
 
+-- A row names the offset of the field that it speaks of; that of 17 names the first byte of an unlink's padding that isn't 0.
+abbrev pub Placed : List ℕ → Fault → Type 0
+Placed h f = f .number ≡ Limits.DIRTY-PADDING → FirstDirty h (f .at)
+
 abbrev pub RightMessage : ℕ → List Item → List ℕ → Event → Type 0
 RightMessage devid is m hungry =
     (length m < Codes.HEADER-LEN)
@@ -164,7 +168,11 @@ RightMessage devid is m (unlink q st o) =
     × (headerOf (header m) .command ≡ Codes.CMD-UNLINK)
     × (q ≡ headerOf (header m) .transfer .seqnum)
     × Removes is (unlinkSeqnumOf (header m)) st o
-RightMessage devid is m (break f ts) = (length m ≡ Codes.HEADER-LEN) × Gives (headerRowsBy devid is (header m)) f × (ts ≡ tickets (pendingOf is))
+RightMessage devid is m (break f ts) =
+    (length m ≡ Codes.HEADER-LEN)
+    × Gives (headerRowsBy devid is (header m)) f
+    × (ts ≡ tickets (pendingOf is))
+    × Placed (header m) f
 
 abbrev pub byPhase : Bool → Type 0 → Type 0 → Type 0
 byPhase true waiting attached = waiting

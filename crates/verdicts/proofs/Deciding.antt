@@ -63,5 +63,6 @@ first-append (t ∷ ts) us = at (t .holds) (first-append ts us)
 
 -- a submit: its own fields first, then whether its seqnum is pending
 pub submit-first : (h : Header) (devid : ℕ) (taken : Bool) → h .command ≡ Codes.CMD-SUBMIT
-    → first (headerTests h devid taken) ≡ decide (first (transferTests (h .transfer))) some (cond taken (some (fault Limits.SEQNUM-PENDING)) none)
-submit-first h devid taken e = rw e (first-append (transferTests (h .transfer)) (test (fault Limits.SEQNUM-PENDING) taken ∷ []))
+    → let pending = fault Limits.SEQNUM-PENDING Codes.SEQNUM-AT in
+    first (headerTests h devid taken) ≡ decide (first (transferTests (h .transfer))) some (cond taken (some pending) none)
+submit-first h devid taken e = rw e (first-append (transferTests (h .transfer)) (test (fault Limits.SEQNUM-PENDING Codes.SEQNUM-AT) taken ∷ []))

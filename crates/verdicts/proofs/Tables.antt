@@ -77,14 +77,14 @@ header-match h devid taken Taken Dirty t d =
     let unlink = eqb (h .command) Codes.CMD-UNLINK in
     let is : (submit ≡ true) ↔ submits = eqb-iff (h .command) Codes.CMD-SUBMIT in
     let un : (unlink ≡ true) ↔ unlinks = eqb-iff (h .command) Codes.CMD-UNLINK in
-    let pending = test (fault Limits.SEQNUM-PENDING) taken ∷ [] in
-    let rows = row (fault Limits.SEQNUM-PENDING) Taken ∷ [] in
+    let pending = test (fault Limits.SEQNUM-PENDING Codes.SEQNUM-AT) taken ∷ [] in
+    let rows = row (fault Limits.SEQNUM-PENDING Codes.SEQNUM-AT) Taken ∷ [] in
     let ts = transferTests (h .transfer) ++ pending in
     let rs = transferRows (h .transfer) ++ rows in
     let us = unlinkTests h devid in
     let qs = unlinkRows h devid Dirty in
-    before (test (fault Limits.BAD-COMMAND) (not (submit || unlink)))
-    (row (fault Limits.BAD-COMMAND) (Not (h .command) Codes.CMD-SUBMIT × Not (h .command) Codes.CMD-UNLINK))
+    before (test (fault Limits.BAD-COMMAND Codes.COMMAND-AT) (not (submit || unlink)))
+    (row (fault Limits.BAD-COMMAND Codes.COMMAND-AT) (Not (h .command) Codes.CMD-SUBMIT × Not (h .command) Codes.CMD-UNLINK))
     (cond submit ts us) (guarded submits rs ++ guarded unlinks qs) refl (neither is un)
     (λ known. either-match submits unlinks submit
     (λ e. (is .0 e, λ u. omega (arith, is .0 e)))

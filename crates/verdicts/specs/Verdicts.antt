@@ -31,9 +31,9 @@ abbrev pub admissionOf : Option ℕ → Admission
 admissionOf none = Admitted
 admissionOf (some n) = Refused n
 
--- A fault of the stream, by number.
-abbrev pub fault : ℕ → Fault
-fault n = record { number = n }
+-- A fault of the stream: its number, and where it stands in its request or message.
+abbrev pub fault : (number at : ℕ) → Fault
+fault n at = record { number = n; at = at }
 
 abbrev pub readingOf : Option Fault → Reading
 readingOf none = Sound
@@ -71,18 +71,20 @@ feedRows closed work reply =
 
 -- ## Feed: 10, 11 and 17 come with the 8th byte of a request
 
+-- A fault stands where the field does that its row speaks of; an unlink's 17 at the first byte of its padding that isn't 0.
+
 abbrev pub requestTests : Request → List (Test Fault)
 requestTests r =
-    test (fault Limits.BAD-VERSION) (not (eqb (r .version) Codes.VERSION))
-    ∷ test (fault Limits.BAD-CODE) (not (eqb (r .code) Codes.OP-REQ-DEVLIST || eqb (r .code) Codes.OP-REQ-IMPORT))
-    ∷ test (fault Limits.DIRTY-PADDING) (not (eqb (r .status) 0))
+    test (fault Limits.BAD-VERSION Codes.VERSION-AT) (not (eqb (r .version) Codes.VERSION))
+    ∷ test (fault Limits.BAD-CODE Codes.CODE-AT) (not (eqb (r .code) Codes.OP-REQ-DEVLIST || eqb (r .code) Codes.OP-REQ-IMPORT))
+    ∷ test (fault Limits.DIRTY-PADDING Codes.OP-STATUS-AT) (not (eqb (r .status) 0))
     ∷ []
 
 abbrev pub requestRows : Request → List (Row Fault)
 requestRows r =
-    row (fault Limits.BAD-VERSION) (Not (r .version) Codes.VERSION)
-    ∷ row (fault Limits.BAD-CODE) (Not (r .code) Codes.OP-REQ-DEVLIST × Not (r .code) Codes.OP-REQ-IMPORT)
-    ∷ row (fault Limits.DIRTY-PADDING) (Not (r .status) 0)
+    row (fault Limits.BAD-VERSION Codes.VERSION-AT) (Not (r .version) Codes.VERSION)
+    ∷ row (fault Limits.BAD-CODE Codes.CODE-AT) (Not (r .code) Codes.OP-REQ-DEVLIST × Not (r .code) Codes.OP-REQ-IMPORT)
+    ∷ row (fault Limits.DIRTY-PADDING Codes.OP-STATUS-AT) (Not (r .status) 0)
     ∷ []
 
 -- ## Feed: 12 comes with the 48th byte of a message, 13 to 16 for submits and 17 and 18 for unlinks, too
@@ -90,51 +92,51 @@ requestRows r =
 -- 13 to 15: a submit, by its own fields alone.
 abbrev pub transferTests : Transfer → List (Test Fault)
 transferTests t =
-    test (fault Limits.BAD-DIRECTION) (ltb Codes.DIR-IN (t .direction))
-    ∷ test (fault Limits.BAD-LENGTH) (ltb Limits.MAX-TRANSFER (t .length))
-    ∷ test (fault Limits.BAD-PACKETS) (not (nonIsochronous (t .packets)))
+    test (fault Limits.BAD-DIRECTION Codes.DIRECTION-AT) (ltb Codes.DIR-IN (t .direction))
+    ∷ test (fault Limits.BAD-LENGTH Codes.LENGTH-AT) (ltb Limits.MAX-TRANSFER (t .length))
+    ∷ test (fault Limits.BAD-PACKETS Codes.PACKETS-AT) (not (nonIsochronous (t .packets)))
     ∷ []
 
 abbrev pub transferRows : Transfer → List (Row Fault)
 transferRows t =
-    row (fault Limits.BAD-DIRECTION) (Codes.DIR-IN < t .direction)
-    ∷ row (fault Limits.BAD-LENGTH) (Limits.MAX-TRANSFER < t .length)
-    ∷ row (fault Limits.BAD-PACKETS) (Not (t .packets) 0 × Not (t .packets) Limits.NO-PACKETS)
+    row (fault Limits.BAD-DIRECTION Codes.DIRECTION-AT) (Codes.DIR-IN < t .direction)
+    ∷ row (fault Limits.BAD-LENGTH Codes.LENGTH-AT) (Limits.MAX-TRANSFER < t .length)
+    ∷ row (fault Limits.BAD-PACKETS Codes.PACKETS-AT) (Not (t .packets) 0 × Not (t .packets) Limits.NO-PACKETS)
     ∷ []
 
 -- 17 and 18: an unlink, by its own fields and the devid of the device that is attached.
 abbrev pub unlinkTests : Header → (devid : ℕ) → List (Test Fault)
 unlinkTests h devid =
-    test (fault Limits.DIRTY-PADDING) (ltb (h .dirty) Codes.HEADER-LEN)
-    ∷ test (fault Limits.BAD-DEVID) (not (eqb (h .devid) devid))
+    test (fault Limits.DIRTY-PADDING (h .dirty)) (ltb (h .dirty) Codes.HEADER-LEN)
+    ∷ test (fault Limits.BAD-DEVID Codes.DEVID-AT) (not (eqb (h .devid) devid))
     ∷ []
 
 -- dirty: a byte of the unlink's padding isn't 0.
 abbrev pub unlinkRows : Header → (devid : ℕ) → (dirty : Type 0) → List (Row Fault)
 unlinkRows h devid dirty =
-    row (fault Limits.DIRTY-PADDING) dirty
-    ∷ row (fault Limits.BAD-DEVID) (Not (h .devid) devid)
+    row (fault Limits.DIRTY-PADDING (h .dirty)) dirty
+    ∷ row (fault Limits.BAD-DEVID Codes.DEVID-AT) (Not (h .devid) devid)
     ∷ []
 
 -- taken: the submit's seqnum is pending. What is no submit and gets past 12 is an unlink.
 abbrev pub headerTests : Header → (devid : ℕ) → (taken : Bool) → List (Test Fault)
 headerTests h devid taken =
     let isSubmit = eqb (h .command) Codes.CMD-SUBMIT in
-    test (fault Limits.BAD-COMMAND) (not (isSubmit || eqb (h .command) Codes.CMD-UNLINK))
-    ∷ cond isSubmit (transferTests (h .transfer) ++ (test (fault Limits.SEQNUM-PENDING) taken ∷ [])) (unlinkTests h devid)
+    test (fault Limits.BAD-COMMAND Codes.COMMAND-AT) (not (isSubmit || eqb (h .command) Codes.CMD-UNLINK))
+    ∷ cond isSubmit (transferTests (h .transfer) ++ (test (fault Limits.SEQNUM-PENDING Codes.SEQNUM-AT) taken ∷ [])) (unlinkTests h devid)
 
 abbrev pub headerRows : Header → (devid : ℕ) → (taken dirty : Type 0) → List (Row Fault)
 headerRows h devid taken dirty =
     let isSubmit = h .command ≡ Codes.CMD-SUBMIT in
     let isUnlink = h .command ≡ Codes.CMD-UNLINK in
     let t = h .transfer in
-    row (fault Limits.BAD-COMMAND) (Not (h .command) Codes.CMD-SUBMIT × Not (h .command) Codes.CMD-UNLINK)
-    ∷ row (fault Limits.BAD-DIRECTION) (isSubmit × (Codes.DIR-IN < t .direction))
-    ∷ row (fault Limits.BAD-LENGTH) (isSubmit × (Limits.MAX-TRANSFER < t .length))
-    ∷ row (fault Limits.BAD-PACKETS) (isSubmit × (Not (t .packets) 0 × Not (t .packets) Limits.NO-PACKETS))
-    ∷ row (fault Limits.SEQNUM-PENDING) (isSubmit × taken)
-    ∷ row (fault Limits.DIRTY-PADDING) (isUnlink × dirty)
-    ∷ row (fault Limits.BAD-DEVID) (isUnlink × Not (h .devid) devid)
+    row (fault Limits.BAD-COMMAND Codes.COMMAND-AT) (Not (h .command) Codes.CMD-SUBMIT × Not (h .command) Codes.CMD-UNLINK)
+    ∷ row (fault Limits.BAD-DIRECTION Codes.DIRECTION-AT) (isSubmit × (Codes.DIR-IN < t .direction))
+    ∷ row (fault Limits.BAD-LENGTH Codes.LENGTH-AT) (isSubmit × (Limits.MAX-TRANSFER < t .length))
+    ∷ row (fault Limits.BAD-PACKETS Codes.PACKETS-AT) (isSubmit × (Not (t .packets) 0 × Not (t .packets) Limits.NO-PACKETS))
+    ∷ row (fault Limits.SEQNUM-PENDING Codes.SEQNUM-AT) (isSubmit × taken)
+    ∷ row (fault Limits.DIRTY-PADDING (h .dirty)) (isUnlink × dirty)
+    ∷ row (fault Limits.BAD-DEVID Codes.DEVID-AT) (isUnlink × Not (h .devid) devid)
     ∷ []
 
 -- ## Feed: a submit that passes is judged when its last byte is in, by status

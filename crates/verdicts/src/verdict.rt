@@ -27,12 +27,21 @@ use messages::message::Transfer;
 use messages::request::Request;
 use wire::codes::CMD_SUBMIT;
 use wire::codes::CMD_UNLINK;
+use wire::codes::CODE_AT;
+use wire::codes::COMMAND_AT;
+use wire::codes::DEVID_AT;
 use wire::codes::DIR_IN;
+use wire::codes::DIRECTION_AT;
 use wire::codes::HEADER_LEN;
+use wire::codes::LENGTH_AT;
 use wire::codes::OP_REQ_DEVLIST;
 use wire::codes::OP_REQ_IMPORT;
+use wire::codes::OP_STATUS_AT;
+use wire::codes::PACKETS_AT;
+use wire::codes::SEQNUM_AT;
 use wire::codes::URB_SHORT_NOT_OK;
 use wire::codes::VERSION;
+use wire::codes::VERSION_AT;
 use wire::status::MINUS_EINVAL;
 use wire::status::MINUS_ENODEV;
 use wire::status::MINUS_ENOMEM;
@@ -52,10 +61,12 @@ pub enum Admission {
     Refused(u32),
 }
 
-// A fault of the stream, by number: 10 to 18. Only the reader of a field makes one.
+// A fault of the stream: its number, 10 to 18, and at which byte of its request or message it stands. Only the reader of a field
+// makes one.
 #[repr(C)]
 pub struct Fault {
     pub number: u32,
+    pub at: usize,
 }
 
 // What the reader of a field answers.
@@ -70,10 +81,10 @@ pub enum Acceptance {
     Answered(u32),
 }
 
-fn faulty(number: u32) -> Reading
-    ensures { λ r. ⌜ r ≡ Reading.Faulty (fault number) ⌝ }
+fn faulty(number: u32, at: usize) -> Reading
+    ensures { λ r. ⌜ r ≡ Reading.Faulty (fault number at) ⌝ }
 {
-    Reading::Faulty(Fault { number })
+    Reading::Faulty(Fault { number, at })
 }
 
 // A feed, before a byte is looked at: is the session closed, and how long are the buffers?
@@ -107,13 +118,13 @@ pub fn request_fault(r: Request) -> Reading
     ensures { λ v. ⌜ v ≡ readingOf (first (requestTests r)) ⌝ }
 {
     if r.version != VERSION {
-        return faulty(BAD_VERSION);
+        return faulty(BAD_VERSION, VERSION_AT);
     }
     if !good_code(r.code) {
-        return faulty(BAD_CODE);
+        return faulty(BAD_CODE, CODE_AT);
     }
     if r.status != 0 {
-        return faulty(DIRTY_PADDING);
+        return faulty(DIRTY_PADDING, OP_STATUS_AT);
     }
     Reading::Sound
 }
@@ -133,13 +144,13 @@ pub fn transfer_fault(t: Transfer) -> Reading
     ensures { λ v. ⌜ v ≡ readingOf (first (transferTests t)) ⌝ }
 {
     if DIR_IN < t.direction {
-        return faulty(BAD_DIRECTION);
+        return faulty(BAD_DIRECTION, DIRECTION_AT);
     }
     if MAX_TRANSFER < t.length {
-        return faulty(BAD_LENGTH);
+        return faulty(BAD_LENGTH, LENGTH_AT);
     }
     if !non_isochronous(t.packets) {
-        return faulty(BAD_PACKETS);
+        return faulty(BAD_PACKETS, PACKETS_AT);
     }
     Reading::Sound
 }
@@ -156,10 +167,10 @@ pub fn unlink_fault(h: Header, devid: u64) -> Reading
     ensures { λ v. ⌜ v ≡ readingOf (first (unlinkTests h devid)) ⌝ }
 {
     if h.dirty < HEADER_LEN {
-        return faulty(DIRTY_PADDING);
+        return faulty(DIRTY_PADDING, h.dirty);
     }
     if for_another(h, devid) {
-        return faulty(BAD_DEVID);
+        return faulty(BAD_DEVID, DEVID_AT);
     }
     Reading::Sound
 }
@@ -172,14 +183,14 @@ pub fn header_fault(h: Header, devid: u64, taken: bool) -> Reading
         return unlink_fault(h, devid);
     }
     if h.command != CMD_SUBMIT {
-        return faulty(BAD_COMMAND);
+        return faulty(BAD_COMMAND, COMMAND_AT);
     }
     let t = h.transfer;
     if let Reading::Faulty(f) = transfer_fault(t) {
         return Reading::Faulty(f);
     }
     if taken {
-        return faulty(SEQNUM_PENDING);
+        return faulty(SEQNUM_PENDING, SEQNUM_AT);
     }
     Reading::Sound
 }

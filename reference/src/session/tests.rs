@@ -65,9 +65,14 @@ impl Deck {
         }
     }
 
-    fn breaks(&mut self, message: &[u8]) -> (Break, Vec<u64>) {
+    /// With which reason, at which offset, and what it drops.
+    fn breaks(&mut self, message: &[u8]) -> (Break, usize, Vec<u64>) {
         match self.feed(message).event {
-            Event::Broken { reason, dropped } => (reason, dropped),
+            Event::Broken {
+                reason,
+                offset,
+                dropped,
+            } => (reason, offset, dropped),
             other => panic!("{other:?}"),
         }
     }
@@ -221,7 +226,7 @@ mod known_exchanges {
             submit.transfer_buffer_length = 16_385;
         };
         let dropped = deck.breaks(&with(long).header());
-        assert_eq!(dropped, (Break::TransferBufferLength, vec![1]));
+        assert_eq!(dropped, (Break::TransferBufferLength, 24, vec![1]));
     }
 
     #[test]
@@ -420,25 +425,33 @@ mod refusals {
 mod breaks {
     use super::*;
 
+    fn broken(reason: Break, offset: usize, dropped: &[u64]) -> Event {
+        let dropped = dropped.to_vec();
+        Event::Broken {
+            reason,
+            offset,
+            dropped,
+        }
+    }
+
     #[test]
     fn requests_break_with_their_8th_byte() {
-        for (request, reason) in [
-            ("0110 8004 00000000", Break::Version),
-            ("0110 8005 00000001", Break::Version),
-            ("0111 8004 00000000", Break::Code),
-            ("0111 8004 00000001", Break::Code),
-            ("0111 8005 00000001", Break::Padding),
-            ("0111 8005 01000000", Break::Padding),
-            ("0111 8003 00000001", Break::Padding),
-            ("0111 8003 01000000", Break::Padding),
+        for (request, reason, offset) in [
+            ("0110 8004 00000000", Break::Version, 0),
+            ("0110 8005 00000001", Break::Version, 0),
+            ("0111 8004 00000000", Break::Code, 2),
+            ("0111 8004 00000001", Break::Code, 2),
+            ("0111 8005 00000001", Break::Padding, 4),
+            ("0111 8005 01000000", Break::Padding, 4),
+            ("0111 8003 00000001", Break::Padding, 4),
+            ("0111 8003 01000000", Break::Padding, 4),
         ] {
             let request = bytes(request);
             let mut deck = Deck::waiting(tape::table());
             assert_eq!(deck.feed(&request[..7]).event, Event::Hungry);
             let fed = deck.feed(&[request[7], 1, 2, 3]);
-            let dropped = vec![];
             assert_eq!((fed.consumed, fed.length), (1, 0));
-            assert_eq!(fed.event, Event::Broken { reason, dropped });
+            assert_eq!(fed.event, broken(reason, offset, &[]));
             assert!(deck.session.is_closed());
         }
     }
@@ -454,21 +467,23 @@ mod breaks {
         };
         let mut header = worst.header();
         header[0] = 1;
-        let mut cases = vec![(header, Break::Command), (worst.header(), Break::Direction)];
+        let mut cases = vec![
+            (header, Break::Command, 0),
+            (worst.header(), Break::Direction, 12),
+        ];
         let mut submit = worst;
         submit.direction = USBIP_DIR_OUT;
-        cases.push((submit.header(), Break::TransferBufferLength));
+        cases.push((submit.header(), Break::TransferBufferLength, 24));
         submit.transfer_buffer_length = 16_384;
-        cases.push((submit.header(), Break::NumberOfPackets));
+        cases.push((submit.header(), Break::NumberOfPackets, 32));
         submit.number_of_packets = NOT_ISOCHRONOUS;
-        cases.push((submit.header(), Break::Seqnum));
-        for (header, reason) in cases {
+        cases.push((submit.header(), Break::Seqnum, 4));
+        for (header, reason, offset) in cases {
             let mut deck = Deck::with_pending(3);
             assert_eq!(deck.feed(&header[..47]).event, Event::Hungry);
             let fed = deck.feed(&[header[47], 1, 2, 3]);
-            let dropped = vec![1, 2, 3];
             assert_eq!((fed.consumed, fed.length), (1, 0));
-            assert_eq!(fed.event, Event::Broken { reason, dropped });
+            assert_eq!(fed.event, broken(reason, offset, &[1, 2, 3]));
             assert_eq!(deck.numbers(), [3, 0, 0, 0, 3]);
             assert_eq!(deck.reply, [UNTOUCHED; LEAST_REPLY]);
             assert_eq!(deck.work, [UNTOUCHED; LEAST_WORK]);
@@ -480,7 +495,7 @@ mod breaks {
         for direction in [2, 0x100, 0x0100_0000, u32::MAX] {
             let submit = with(|submit| submit.direction = direction);
             let broken = Deck::attached().breaks(&submit.header());
-            assert_eq!(broken, (Break::Direction, vec![]));
+            assert_eq!(broken, (Break::Direction, 12, vec![]));
         }
     }
 
@@ -490,17 +505,16 @@ mod breaks {
         let requests = op_req_devlist().repeat(6);
         assert_eq!(deck.feed(&requests[..47]).event, Event::Hungry);
         let broken = deck.breaks(&requests[47..]);
-        assert_eq!(broken, (Break::Command, vec![]));
+        assert_eq!(broken, (Break::Command, 0, vec![]));
     }
 
     /// Breaks with the 48th byte: all that is pending is dropped, and nothing is answered.
-    fn breaks_an_unlink(header: &[u8], reason: Break) {
+    fn breaks_an_unlink(header: &[u8], reason: Break, offset: usize) {
         let mut deck = Deck::with_pending(2);
         assert_eq!(deck.feed(&header[..47]).event, Event::Hungry);
         let fed = deck.feed(&[header[47], 1, 2, 3]);
-        let dropped = vec![1, 2];
         assert_eq!((fed.consumed, fed.length), (1, 0));
-        assert_eq!(fed.event, Event::Broken { reason, dropped });
+        assert_eq!(fed.event, broken(reason, offset, &[1, 2]));
         assert_eq!(deck.numbers(), [2, 0, 0, 0, 2]);
         assert_eq!(deck.reply, [UNTOUCHED; LEAST_REPLY]);
     }
@@ -512,16 +526,19 @@ mod breaks {
             for value in [1, 0x80] {
                 let mut header = clean.header();
                 header[offset] = value;
-                breaks_an_unlink(&header, Break::Padding);
+                breaks_an_unlink(&header, Break::Padding, offset);
+                header[offset + 1..20.max(offset + 1)].fill(0xff);
+                header[24.max(offset + 1)..].fill(0xff);
+                breaks_an_unlink(&header, Break::Padding, offset);
             }
         }
-        for (direction, ep) in [(1, 0), (0, 1), (u32::MAX, u32::MAX)] {
+        for (direction, ep, offset) in [(1, 0, 15), (0, 1, 19), (u32::MAX, u32::MAX, 12)] {
             let unlink = CmdUnlink {
                 direction,
                 ep,
                 ..clean
             };
-            breaks_an_unlink(&unlink.header(), Break::Padding);
+            breaks_an_unlink(&unlink.header(), Break::Padding, offset);
         }
     }
 
@@ -532,12 +549,31 @@ mod breaks {
                 devid,
                 ..unlink_of(9, 1)
             };
-            breaks_an_unlink(&unlink.header(), Break::Devid);
+            breaks_an_unlink(&unlink.header(), Break::Devid, 8);
             let mut dirty = unlink.header();
             dirty[47] = 1;
-            breaks_an_unlink(&dirty, Break::Padding);
+            breaks_an_unlink(&dirty, Break::Padding, 47);
             dirty[3] = 3;
-            breaks_an_unlink(&dirty, Break::Command);
+            breaks_an_unlink(&dirty, Break::Command, 0);
+        }
+    }
+
+    #[test]
+    fn an_offset_counts_from_its_own_message() {
+        let mut dirty = unlink_of(9, 1).header();
+        dirty[24] = 1;
+        let stream = [intr_in(1).header(), intr_in(2).header(), dirty].concat();
+        for cut in 0..stream.len() {
+            let mut deck = Deck::attached();
+            let mut last = Event::Hungry;
+            for mut piece in [&stream[..cut], &stream[cut..]] {
+                while !piece.is_empty() {
+                    let fed = deck.feed(piece);
+                    piece = &piece[fed.consumed..];
+                    last = fed.event;
+                }
+            }
+            assert_eq!(last, broken(Break::Padding, 24, &[1, 2]), "cut at {cut}");
         }
     }
 

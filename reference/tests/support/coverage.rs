@@ -1,10 +1,9 @@
 //! Which kinds of lines and of bad tapes were reached, and how often.
 
 use reference::generate::{BadEnd, BAD_ENDS};
-use reference::tape::{Item, Reader, Record};
-use reference::wire::HEADER_SIZE;
+use reference::tape::{Item, Reader};
 use std::collections::BTreeMap;
-use std::ops::Range;
+use std::iter;
 
 /// Every kind of line that a tape can reach, with every number and status, two limits, and what URB_SHORT_NOT_OK can meet.
 const LINES: &[&str] = &[
@@ -12,19 +11,14 @@ const LINES: &[&str] = &[
     "answer -19",
     "answer -22",
     "bad tape",
-    "broken 10",
-    "broken 11",
-    "broken 12",
-    "broken 13",
-    "broken 14",
-    "broken 15",
-    "broken 16",
-    "broken 17",
-    "broken 17: direction",
-    "broken 17: ep",
-    "broken 17: after unlink_seqnum",
-    "broken 17: status",
-    "broken 18",
+    "broken 10 at 0",
+    "broken 11 at 2",
+    "broken 12 at 0",
+    "broken 13 at 12",
+    "broken 14 at 24",
+    "broken 15 at 32",
+    "broken 16 at 4",
+    "broken 18 at 8",
     "closed",
     "data -",
     "data",
@@ -64,6 +58,11 @@ const LINES: &[&str] = &[
     "unlink 0",
 ];
 
+/// Where 17 can be: at a request's status, and at each byte of an unlink's padding.
+fn dirty_offsets() -> impl Iterator<Item = usize> {
+    iter::once(4).chain(12..20).chain(24..48)
+}
+
 #[derive(Default)]
 pub struct Coverage(BTreeMap<String, u64>);
 
@@ -82,9 +81,6 @@ impl Coverage {
                 self.count(kind);
             }
         }
-        if trace.contains("broken 17\n") {
-            self.count(format!("broken 17: {}", dirty(&stream(tape), trace)));
-        }
         if let Some(end) = bad_end(tape) {
             self.count(format!("bad tape: {end:?}"));
         }
@@ -100,9 +96,11 @@ impl Coverage {
             println!("{count:8} {kind}");
         }
         let ends = BAD_ENDS.iter().map(|end| format!("bad tape: {end:?}"));
+        let dirty = dirty_offsets().map(|offset| format!("broken 17 at {offset}"));
         let wanted: Vec<String> = LINES
             .iter()
             .map(|line| line.to_string())
+            .chain(dirty)
             .chain(ends)
             .collect();
         for kind in &wanted {
@@ -119,7 +117,8 @@ fn kind(line: &str) -> String {
     let words: Vec<&str> = line.split(' ').collect();
     match words[..] {
         ["answer" | "unlink", _, status] => format!("{} {status}", words[0]),
-        ["import" | "refused" | "broken" | "bad", number] => format!("{} {number}", words[0]),
+        ["import" | "refused" | "bad", number] => format!("{} {number}", words[0]),
+        ["broken", number, "at", offset] => format!("broken {number} at {offset}"),
         [first, .., "-"] => format!("{first} -"),
         _ => words[0].to_string(),
     }
@@ -206,39 +205,6 @@ fn short_read_kinds(urb: &Urb, actual: u32, status: &str) -> Vec<String> {
         kinds.push(format!("short read, one byte missing: {status}"));
     }
     kinds
-}
-
-/// The field that the first dirty byte is in of the message that broke the session: the last bytes
-/// that were consumed are its own.
-fn dirty(stream: &[u8], trace: &str) -> &'static str {
-    let counts = trace.lines().filter_map(|line| line.strip_prefix("feed "));
-    let consumed: usize = counts
-        .map(|rest| rest.split(' ').next().expect("a count"))
-        .map(|count| count.parse::<usize>().expect("a count"))
-        .sum();
-    if !trace.contains("import 0\n") {
-        return "status";
-    }
-    let header = &stream[consumed - HEADER_SIZE..consumed];
-    let is_dirty = |fields: Range<usize>| header[fields].iter().any(|&byte| byte != 0);
-    if is_dirty(0x0c..0x10) {
-        "direction"
-    } else if is_dirty(0x10..0x14) {
-        "ep"
-    } else {
-        "after unlink_seqnum"
-    }
-}
-
-fn stream(tape: &[u8]) -> Vec<u8> {
-    let mut reader = Reader::new(tape);
-    let mut bytes = Vec::new();
-    while let Item::Record(record) = reader.read_item().expect("a slice reads") {
-        if let Record::Stream(piece) = record {
-            bytes.extend(piece);
-        }
-    }
-    bytes
 }
 
 fn bad_end(tape: &[u8]) -> Option<BadEnd> {

@@ -29,7 +29,7 @@ impl Author {
     }
 
     pub(super) fn break_command(&mut self) {
-        let mut message = match self.random.below(10) {
+        let mut message = match self.random.below(19) {
             0 => op_req_devlist().repeat(6),
             1 => [op_req_import_of(BUSID), op_req_devlist()].concat(),
             2 => {
@@ -74,12 +74,12 @@ impl Author {
         let unlink = CmdUnlink {
             seqnum: self.seqnum(),
             unlink_seqnum: self.pick_pending().map_or(0, |urb| urb.seqnum),
-            devid: self.random.pick(&[DEVID, DEVID, DEVID, 0, DEVID - 1]),
+            devid: self.random.pick(&[DEVID, DEVID, DEVID, DEVID, DEVID, 0, DEVID - 1]),
             ..CmdUnlink::default()
         };
         let mut header = unlink.header();
         let dirty = match unlink.devid {
-            DEVID => self.random.pick(&[1, 1, 1, 2, 32]),
+            DEVID => self.random.pick(&[1, 1, 1, 1, 1, 2]),
             _ => self.random.pick(&[0, 1]),
         };
         let padding: Vec<usize> = (12..20).chain(24..48).collect();

@@ -44,14 +44,14 @@ answered-requires-3 c κs = search needs
 enum-known-event-5 : tie.Need-enum-known-event-5
 enum-known-event-5 c = search needs
 
-numbered-requires : tie.Need-numbered-requires
-numbered-requires c κs = search needs
+broken-requires : tie.Need-broken-requires
+broken-requires c κs = search needs
 
 enum-known-event-6 : tie.Need-enum-known-event-6
 enum-known-event-6 c = search needs
 
-numbered-requires-2 : tie.Need-numbered-requires-2
-numbered-requires-2 c κs = search needs
+numbered-requires : tie.Need-numbered-requires
+numbered-requires c κs = search needs
 
 returns : tie.Need-returns
 returns c = rw (c .before .enum-told .given .1, c .bare .ensures)
@@ -74,10 +74,10 @@ returns-6 c =
     rw (r .before .before .event4 .given .1, c .answered3 .ensures, r .removed-ticket .ensures)
 
 returns-7 : tie.Need-returns-7
-returns-7 c = rw (c .before .before .event5 .given .1, c .numbered .ensures)
+returns-7 c = rw (c .before .before .event5 .given .1, c .broken .ensures)
 
 returns-8 : tie.Need-returns-8
-returns-8 c = rw (c .before .before .event6 .given .1, c .numbered2 .ensures)
+returns-8 c = rw (c .before .before .event6 .given .1, c .numbered .ensures)
 
 pub flat-event-spec : {M : Type 1} → statement M
 flat-event-spec =
@@ -97,9 +97,9 @@ flat-event-spec =
     removed-ticket-requires
     answered-requires-3
     enum-known-event-5
-    numbered-requires
+    broken-requires
     enum-known-event-6
-    numbered-requires-2
+    numbered-requires
     returns
     returns-2
     returns-3

@@ -58,6 +58,15 @@ status-line-requires-2 c κs = search needs
 enum-known-event-5 : tie.Need-enum-known-event-5
 enum-known-event-5 c = search needs
 
+broken-line-requires : tie.Need-broken-line-requires
+broken-line-requires c κs = search needs
+
+with-dropped-requires : tie.Need-with-dropped-requires
+with-dropped-requires c κs = search needs
+
+enum-known-event-6 : tie.Need-enum-known-event-6
+enum-known-event-6 c = search needs
+
 slice-aggregate-number-line-2 : tie.Need-slice-aggregate-number-line-2
 slice-aggregate-number-line-2 c = search needs
 
@@ -66,21 +75,6 @@ cast-number-line-2 c = search needs
 
 number-line-requires-2 : tie.Need-number-line-requires-2
 number-line-requires-2 c κs = search needs
-
-with-dropped-requires : tie.Need-with-dropped-requires
-with-dropped-requires c κs = search needs
-
-enum-known-event-6 : tie.Need-enum-known-event-6
-enum-known-event-6 c = search needs
-
-slice-aggregate-number-line-3 : tie.Need-slice-aggregate-number-line-3
-slice-aggregate-number-line-3 c = search needs
-
-cast-number-line-3 : tie.Need-cast-number-line-3
-cast-number-line-3 c = search needs
-
-number-line-requires-3 : tie.Need-number-line-requires-3
-number-line-requires-3 c κs = search needs
 
 returns : tie.Need-returns
 returns c = λ setup. rw (c .before .enum-told .given .1) (wider (omega arith) (c .empty .ensures))
@@ -103,11 +97,11 @@ returns-6 c = λ setup. rw (c .before .before .before .event4 .given .1) (wider 
 returns-7 : tie.Need-returns-7
 returns-7 c =
     λ setup.
-    rw (c .before .before .before .before .before .event5 .given .1)
-    (rw (c .before .number-line2 .ensures .text) at (c .with-dropped .ensures))
+    rw (c .before .before .before .event5 .given .1)
+    (rw (c .before .broken-line .ensures .text) at (c .with-dropped .ensures))
 
 returns-8 : tie.Need-returns-8
-returns-8 c = λ setup. rw (c .before .before .before .event6 .given .1) (wider (omega arith) (c .number-line3 .ensures))
+returns-8 c = λ setup. rw (c .before .before .before .event6 .given .1) (wider (omega arith) (c .number-line2 .ensures))
 
 pub event-text-spec : {M : Type 1} → statement M
 event-text-spec =
@@ -131,14 +125,12 @@ event-text-spec =
     slice-aggregate-status-line-2
     status-line-requires-2
     enum-known-event-5
+    broken-line-requires
+    with-dropped-requires
+    enum-known-event-6
     slice-aggregate-number-line-2
     cast-number-line-2
     number-line-requires-2
-    with-dropped-requires
-    enum-known-event-6
-    slice-aggregate-number-line-3
-    cast-number-line-3
-    number-line-requires-3
     returns
     returns-2
     returns-3
