@@ -92,7 +92,8 @@ static int feed(size_t length)
 {
     size_t at = 0;
     while (at < length) {
-        struct rimemaple_fed fed = rimemaple_feed(session, piece + at, length - at, work, sizeof work, reply, sizeof reply);
+        /* Nothing waits here, so that nothing is asked of the time. */
+        struct rimemaple_fed fed = rimemaple_feed(session, piece + at, length - at, work, sizeof work, reply, sizeof reply, 0);
         session = fed.session;
         at += fed.consumed;
         if (!carry_out(&fed))

@@ -13,7 +13,7 @@ int main(void)
     strcpy((char *)table.devices[0].path, "/deck/1-1");
     strcpy((char *)table.devices[0].busid, "1-1");
     struct rimemaple_session session = rimemaple_open(table).session;
-    struct rimemaple_fed fed = rimemaple_feed(session, import, sizeof import, work, sizeof work, reply, sizeof reply);
+    struct rimemaple_fed fed = rimemaple_feed(session, import, sizeof import, work, sizeof work, reply, sizeof reply, 0);
     printf("event %u, status %d, %lu bytes to the client, device %#lx\n", (unsigned)fed.event.kind, (int)fed.event.status,
            (unsigned long)fed.length, (unsigned long)rimemaple_devid(fed.session));
     return fed.event.kind != RIMEMAPLE_IMPORT;

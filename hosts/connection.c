@@ -2,7 +2,8 @@
  * What a host owes, and where it is done here:
  *
  * - to the engine: an act gets the session that the last act handed back (feed, complete, connection_close); all pieces
- *   of a message get the same work buffer (feed), and OUT data is copied from it before the next feed (carry_out);
+ *   of a message get the same work buffer (feed), and OUT data is copied from it before the next feed (carry_out); the
+ *   times of feeds and inquiries are of one clock (feed, inquire);
  * - to the client: replies go out whole and in the order of the acts that made them, so there is one queue for both
  *   (feed, complete, transmit); a session that ends with a reply is hung up on after it, one that breaks at once
  *   (carry_out);
@@ -62,6 +63,7 @@ struct connection {
     struct replies replies;
     struct tape *tape;          /* null if none is recorded */
     struct report report;
+    int64_t inquiry_due;        /* when stale submits are asked for next */
 };
 
 static size_t cut_length(uint32_t small, uint32_t large)
@@ -181,7 +183,7 @@ static void carry_out(struct connection *c, const struct rimemaple_event *event)
 static size_t feed(struct connection *c, const uint8_t *piece, size_t length)
 {
     const struct rimemaple_fed fed = rimemaple_feed(c->session, piece, length, c->work, sizeof c->work,
-                                                    c->reply, sizeof c->reply);
+                                                    c->reply, sizeof c->reply, now_ms());
 
     c->session = fed.session;
     tape_fed(c->tape, piece, length, &fed);
@@ -249,6 +251,22 @@ static void settle(struct connection *c)
     }
 }
 
+/* ---- What waits too long ---- */
+
+static bool inquiring(const struct connection *c)
+{
+    return c->options->stale > 0 && c->stage == SERVING && c->device;
+}
+
+/* Nothing is done to what is stale: a box might complete it with an error. */
+static void inquire(struct connection *c)
+{
+    const struct rimemaple_inquired inquired = rimemaple_stale(c->session, now_ms(), c->options->stale);
+
+    report_stale(&c->report, &inquired);
+    c->inquiry_due = now_us() + (int64_t)c->options->stale * 1000;
+}
+
 /* ---- What goes out ---- */
 
 static size_t part_length(const struct connection *c)
@@ -287,9 +305,11 @@ short connection_events(const struct connection *c)
 int64_t connection_due(const struct connection *c)
 {
     const int64_t completion = c->device ? device_due(c->device) : INT64_MAX;
+    const int64_t inquiry = inquiring(c) ? c->inquiry_due : INT64_MAX;
     const int64_t reply = replies_due(&c->replies);
+    const int64_t first = inquiry < completion ? inquiry : completion;
 
-    return reply > now_us() && reply < completion ? reply : completion;
+    return reply > now_us() && reply < first ? reply : first;
 }
 
 bool connection_serve(struct connection *c, short events)
@@ -298,6 +318,8 @@ bool connection_serve(struct connection *c, short events)
         receive(c);
     if (c->stage == SERVING && c->device)
         settle(c);
+    if (inquiring(c) && c->inquiry_due <= now_us())
+        inquire(c);
     if (c->stage != OVER)
         transmit(c);
     return c->stage == SERVING || (c->stage == LEAVING && c->replies.count > 0);

@@ -15,6 +15,7 @@ static const char usage[] =
     "  --devices LIST  of camera, serial, disk, vendor, zero, ethernet (camera,serial,disk): busids 1-1, 1-2, ...\n"
     "  --log FILE      the log (standard output)\n"
     "  --tapes DIR     record connection N as the replay tape DIR/N.tape, its lines in DIR/N.lines\n"
+    "  --stale MS      tell which submits have been pending for MS milliseconds\n"
     "  --quiet         no line for each URB\n"
     "  --cuts          cut reads, feeds and sends at random places\n"
     "  --late          let completions wait, and let devices complete half of the cancelled URBs late\n"
@@ -64,6 +65,9 @@ static bool set_value(struct options *options, const char *word, const char *val
     } else if (strcmp(word, "--seed") == 0) {
         good = read_number(value, UINT32_MAX, &number);
         options->seed = (uint32_t)number;
+    } else if (strcmp(word, "--stale") == 0) {
+        good = read_number(value, UINT32_MAX, &number);
+        options->stale = (uint32_t)number;
     } else {
         good = false;
     }

@@ -8,6 +8,7 @@
 struct options {
     uint16_t port;          /* 0: any that is free */
     uint32_t seed;
+    uint32_t stale;         /* milliseconds after which a pending submit is told of; 0: none is */
     const char *log;        /* null: standard output */
     const char *tapes;      /* null: none are recorded */
     const char *devices;

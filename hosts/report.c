@@ -161,6 +161,18 @@ void report_closed(const struct report *r, const struct rimemaple_closed *closed
         log_line(r->connection, "closed, dropped %zu tickets", closed->dropped.count);
 }
 
+/* Tickets rise and the clock never goes back, so that a stale ticket is above all that were stale before. */
+void report_stale(struct report *r, const struct rimemaple_inquired *inquired)
+{
+    if (inquired->refusal)
+        log_line(r->connection, "UNEXPECTED: an inquiry is REFUSED %" PRIu32, inquired->refusal);
+    for (size_t i = 0; i < inquired->stale.count; i++)
+        if (inquired->stale.tickets[i] > r->last_stale) {
+            r->last_stale = inquired->stale.tickets[i];
+            log_line(r->connection, "stale %" PRIu64, r->last_stale);
+        }
+}
+
 /* The counts of the events, by kind. */
 static void write_events(const struct report *r, char *text)
 {

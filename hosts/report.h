@@ -17,6 +17,7 @@ struct report {
     uint64_t refusals;                      /* all other refused completions */
     uint64_t parts;
     uint64_t most_pending;
+    uint64_t last_stale;                    /* the highest ticket that was told to be stale */
 };
 
 /* One call for each act. The word UNEXPECTED marks what must never happen. */
@@ -24,6 +25,9 @@ void report_fed(struct report *r, const uint8_t *piece, size_t length, const str
 void report_completed(struct report *r, const struct urb *urb, const struct rimemaple_completed *completed,
                       const uint8_t *header);
 void report_closed(const struct report *r, const struct rimemaple_closed *closed);
+
+/* A line for each stale ticket that had none yet. */
+void report_stale(struct report *r, const struct rimemaple_inquired *inquired);
 
 /* The end of the connection: its session then, and its device, if it had one. */
 void report_end(const struct report *r, const struct rimemaple_session *session, const struct device *device);

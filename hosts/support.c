@@ -14,6 +14,11 @@ int64_t now_us(void)
     return (int64_t)t.tv_sec * 1000000 + t.tv_nsec / 1000;
 }
 
+uint32_t now_ms(void)
+{
+    return (uint32_t)(now_us() / 1000);
+}
+
 /* Xorshift of 32 bits: its state is never 0. */
 void chance_seed(uint32_t seed)
 {

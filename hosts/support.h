@@ -8,6 +8,9 @@
 /* Microseconds of a clock that never goes back. */
 int64_t now_us(void);
 
+/* Its milliseconds in 32 bits, as the engine takes a time: they wrap. */
+uint32_t now_ms(void);
+
 /* Pseudo-random numbers: the same seed gives the same run of them. */
 void chance_seed(uint32_t seed);
 

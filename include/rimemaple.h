@@ -23,7 +23,7 @@ extern "C" {
 #endif
 
 /* The version of this face: it rises with each change of a function, a struct or an answer. */
-#define RIMEMAPLE_VERSION 4
+#define RIMEMAPLE_VERSION 5
 
 /* The limits (docs/PROTOCOL.md, 5). */
 #define RIMEMAPLE_MAX_DEVICES 16
@@ -152,6 +152,7 @@ struct rimemaple_urb {
     uint64_t ticket;
     struct rimemaple_transfer transfer;
     uint8_t setup[RIMEMAPLE_SETUP_LEN];
+    uint32_t arrival;   /* the time given with the feed that accepted it */
 };
 
 struct rimemaple_pending {
@@ -185,6 +186,7 @@ struct rimemaple_event {
     uint64_t ticket;                     /* SUBMIT: by which the device knows the URB, from 1 on, never used twice */
     struct rimemaple_transfer transfer;  /* SUBMIT */
     uint8_t setup[RIMEMAPLE_SETUP_LEN];  /* SUBMIT */
+    uint32_t arrival;                    /* SUBMIT: the time given with this feed */
 };
 
 struct rimemaple_opened {
@@ -211,6 +213,11 @@ struct rimemaple_closed {
     struct rimemaple_session session;
     uint32_t refusal;                    /* 0, or SESSION_CLOSED */
     struct rimemaple_tickets dropped;    /* what was pending */
+};
+
+struct rimemaple_inquired {
+    uint32_t refusal;                    /* 0, or SESSION_CLOSED */
+    struct rimemaple_tickets stale;
 };
 
 struct rimemaple_numbers {
@@ -249,9 +256,10 @@ struct rimemaple_opened rimemaple_open(struct rimemaple_table table);
 
 /* A piece of the client's stream, cut anywhere: up to the end of the first whole message, or all of it. OUT data goes to the work
    buffer as it comes, from 0 on: lend the same one until its message ends, and copy the data before the next feed. A reply goes to
-   the front of the reply buffer. */
+   the front of the reply buffer. The time is in milliseconds, from any start, and wraps; an accepted submit keeps the time of the feed that
+   takes its last byte, for rimemaple_stale. It has no other effect: a host that never asks may give 0. */
 struct rimemaple_fed rimemaple_feed(struct rimemaple_session session, const uint8_t *piece, size_t piece_length, uint8_t *work,
-                                    size_t work_length, uint8_t *reply, size_t reply_length);
+                                    size_t work_length, uint8_t *reply, size_t reply_length, uint32_t time);
 
 /* The device is done with a ticket: status is 0 or a negative errno, actual the bytes that were transferred. The payload is an IN's
    data; an OUT's isn't looked at. The header gets 48 bytes; send them and the payload by rimemaple_part. An IN whose transfer.flags have
@@ -261,6 +269,9 @@ struct rimemaple_completed rimemaple_complete(struct rimemaple_session session, 
 
 /* The connection ended: what is pending is dropped. */
 struct rimemaple_closed rimemaple_close(struct rimemaple_session session);
+
+/* Which pending URBs are stale: those whose age, time less arrival modulo 2^32, is at least limit milliseconds. Nothing is removed. */
+struct rimemaple_inquired rimemaple_stale(struct rimemaple_session session, uint32_t time, uint32_t limit);
 
 /* accepted = pending + returned + unlinked + dropped. */
 struct rimemaple_numbers rimemaple_numbers(struct rimemaple_session session);

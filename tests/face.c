@@ -115,11 +115,16 @@ static void make_device(struct rimemaple_device *d, int i)
     }
 }
 
-static struct rimemaple_fed feed(const uint8_t *piece, size_t length)
+static struct rimemaple_fed feed_at(uint32_t time, const uint8_t *piece, size_t length)
 {
-    struct rimemaple_fed fed = rimemaple_feed(session, piece, length, work, sizeof work, reply, sizeof reply);
+    struct rimemaple_fed fed = rimemaple_feed(session, piece, length, work, sizeof work, reply, sizeof reply, time);
     session = fed.session;
     return fed;
+}
+
+static struct rimemaple_fed feed(const uint8_t *piece, size_t length)
+{
+    return feed_at(0, piece, length);
 }
 
 static void opens(void)
@@ -166,6 +171,12 @@ static void imports(void)
 
 /* ---- Messages ---- */
 
+/* The time that submit i arrives at: the clock wraps at the 8th. */
+static uint32_t arrival_of(uint32_t i)
+{
+    return 0xfffffff8 + i;
+}
+
 static void progresses(void)
 {
     uint8_t message[RIMEMAPLE_HEADER_LEN + 100];
@@ -181,9 +192,10 @@ static void progresses(void)
     check("its command and devid", p->header.command == 1 && p->header.devid == devid);
     check("its transfer", same_transfer(p->header.transfer, t));
     check("its setup bytes", same_setup(p->header.setup, t));
-    struct rimemaple_fed fed = feed(message + 53, 95);
+    struct rimemaple_fed fed = feed_at(arrival_of(0), message + 53, 95);
     check("submit", fed.event.kind == RIMEMAPLE_SUBMIT && fed.event.ticket == 1);
     check("consumed", fed.consumed == 95 && fed.length == 0);
+    check("arrived with its last byte", fed.event.arrival == arrival_of(0) && session.pending.urbs[0].arrival == arrival_of(0));
     check("its data", memcmp(work, message + RIMEMAPLE_HEADER_LEN, 100) == 0);
 }
 
@@ -194,10 +206,12 @@ static void submits(void)
     for (uint32_t i = 1; i < RIMEMAPLE_MAX_PENDING; i++) {
         const struct rimemaple_transfer t = transfer_of(i, RIMEMAPLE_DIR_IN);
         put_submit(message, t, (uint32_t)rimemaple_devid(session));
-        struct rimemaple_event e = feed(message, sizeof message).event;
+        struct rimemaple_event e = feed_at(arrival_of(i), message, sizeof message).event;
         const struct rimemaple_urb *u = &session.pending.urbs[i];
         events = events && e.ticket == i + 1 && same_transfer(e.transfer, t) && same_setup(e.setup, t);
+        events = events && e.arrival == arrival_of(i);
         urbs = urbs && u->ticket == i + 1 && same_transfer(u->transfer, t) && same_setup(u->setup, t);
+        urbs = urbs && u->arrival == arrival_of(i);
     }
     check("every field of every accepted submit", events);
     check("every field of every pending URB", urbs);
@@ -254,6 +268,25 @@ static void settles(void)
     check("a short header buffer", rimemaple_complete(session, 6, 0, 0, NULL, 0, header, 47).refusal == RIMEMAPLE_SHORT_BUFFER);
 }
 
+/* Of the 32 that arrived a millisecond apart, so many are stale, the first of them with this ticket. */
+static void stale(const char *what, uint32_t time, uint32_t limit, uint64_t first, size_t count)
+{
+    struct rimemaple_inquired inquired = rimemaple_stale(session, time, limit);
+    int right = inquired.refusal == 0 && inquired.stale.count == count;
+    for (size_t i = 0; i < inquired.stale.count; i++)
+        right = right && inquired.stale.tickets[i] == first + i;
+    check(what, right);
+}
+
+static void inquires(void)
+{
+    stale("stale at the limit", arrival_of(31), 21, 1, 11);
+    stale("all are stale", arrival_of(31), 0, 1, 32);
+    stale("none is stale", arrival_of(31), 32, 0, 0);
+    stale("a time before the last arrival", arrival_of(31) - 1, 0xffffffff, 32, 1);
+    stale("a time before every arrival", arrival_of(0) - 1, 0xffffffe0, 1, 32);
+}
+
 /* ---- The end ---- */
 
 static int tickets_left(const struct rimemaple_tickets *t)
@@ -267,7 +300,7 @@ static int tickets_left(const struct rimemaple_tickets *t)
 static int breaks_with(const uint8_t *message, uint32_t number, size_t at)
 {
     struct rimemaple_fed fed =
-        rimemaple_feed(session, message, RIMEMAPLE_HEADER_LEN, work, sizeof work, reply, sizeof reply);
+        rimemaple_feed(session, message, RIMEMAPLE_HEADER_LEN, work, sizeof work, reply, sizeof reply, 0);
     const struct rimemaple_event *e = &fed.event;
     return e->kind == RIMEMAPLE_BREAK && e->number == number && e->at == at && fed.length == 0 && tickets_left(&fed.dropped);
 }
@@ -287,13 +320,13 @@ static void unlinks_break(void)
 static void breaks(void)
 {
     static const uint8_t message[RIMEMAPLE_HEADER_LEN] = {0, 0, 0, 9};
-    struct rimemaple_fed fed = rimemaple_feed(session, message, sizeof message, work, sizeof work, reply, sizeof reply);
+    struct rimemaple_fed fed = rimemaple_feed(session, message, sizeof message, work, sizeof work, reply, sizeof reply, 0);
     check("break 12", fed.event.kind == RIMEMAPLE_BREAK && fed.event.number == RIMEMAPLE_BAD_COMMAND && fed.event.at == 0);
     check("what it drops", tickets_left(&fed.dropped));
     check("closed", fed.session.link.phase == 2 && rimemaple_devid(fed.session) == 0);
-    fed = rimemaple_feed(fed.session, message, sizeof message, work, sizeof work, reply, sizeof reply);
+    fed = rimemaple_feed(fed.session, message, sizeof message, work, sizeof work, reply, sizeof reply, 0);
     check("refused 3", fed.event.kind == RIMEMAPLE_REFUSED && fed.event.number == RIMEMAPLE_SESSION_CLOSED);
-    fed = rimemaple_feed(session, message, sizeof message, work, sizeof work, reply, sizeof reply - 1);
+    fed = rimemaple_feed(session, message, sizeof message, work, sizeof work, reply, sizeof reply - 1, 0);
     check("refused 1", fed.event.kind == RIMEMAPLE_REFUSED && fed.event.number == RIMEMAPLE_SHORT_BUFFER);
 }
 
@@ -307,6 +340,8 @@ static void closes(void)
     const struct rimemaple_counts *c = &closed.session.link.counts;
     check("the counts", c->accepted == 32 && c->returned == 3 && c->unlinked == 2 && c->dropped == 27);
     check("close again", rimemaple_close(closed.session).refusal == RIMEMAPLE_SESSION_CLOSED);
+    struct rimemaple_inquired inquired = rimemaple_stale(closed.session, 0, 0);
+    check("inquire when closed", inquired.refusal == RIMEMAPLE_SESSION_CLOSED && inquired.stale.count == 0);
 }
 
 static int is_part(struct rimemaple_part p, uint32_t slice, size_t at, size_t length)
@@ -341,6 +376,7 @@ int main(void)
     imports();
     progresses();
     submits();
+    inquires();
     settles();
     unlinks_break();
     breaks();

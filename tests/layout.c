@@ -127,6 +127,7 @@ static void print_session(void)
     FIELD(urb, ticket);
     FIELD(urb, transfer);
     FIELD(urb, setup);
+    FIELD(urb, arrival);
     STRUCT(pending);
     FIELD(pending, urbs);
     FIELD(pending, count);
@@ -151,6 +152,7 @@ static void print_event(void)
     FIELD(event, ticket);
     FIELD(event, transfer);
     FIELD(event, setup);
+    FIELD(event, arrival);
 }
 
 static void print_answers(void)
@@ -173,6 +175,9 @@ static void print_answers(void)
     FIELD(closed, session);
     FIELD(closed, refusal);
     FIELD(closed, dropped);
+    STRUCT(inquired);
+    FIELD(inquired, refusal);
+    FIELD(inquired, stale);
 }
 
 static void print_others(void)

@@ -50,6 +50,7 @@ fn accepted(accepted: &session::Urb) -> Event {
         ticket: urb.ticket,
         transfer: urb.transfer,
         setup: urb.setup,
+        arrival: urb.arrival,
     }
 }
 
@@ -85,6 +86,7 @@ pub fn urb(urb: &session::Urb) -> sys::Urb {
             interval: urb.interval,
         },
         setup: urb.setup,
+        arrival: urb.arrival,
     }
 }
 

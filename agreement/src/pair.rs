@@ -44,12 +44,14 @@ impl Pair {
         piece: &[u8],
         work: &mut [u8],
         reply: &mut [u8],
+        time: u32,
     ) -> Result<Fed, Refusal> {
         let before = self.library.clone();
         let (mut our_work, mut our_reply) = (work.to_vec(), reply.to_vec());
-        let answer = self.library.feed(piece, &mut our_work, &mut our_reply);
-        let expected = answers::fed(self.reference.feed(piece, work, reply));
-        assert_eq!(answer, expected, "to {piece:?}");
+        let library = &mut self.library;
+        let answer = library.feed(piece, &mut our_work, &mut our_reply, time);
+        let expected = answers::fed(self.reference.feed(piece, work, reply, time));
+        assert_eq!(answer, expected, "to {piece:?} at {time}");
         assert!(our_work == work, "the work buffer of {piece:?}");
         assert!(our_reply == reply, "the reply to {piece:?}");
         self.compare_after(answer.is_err(), &before);
@@ -58,10 +60,15 @@ impl Pair {
 
     /// Feeds a stream, with buffers of its own, until it is used up or refused.
     pub fn stream(&mut self, stream: &[u8]) {
+        self.stream_at(0, stream);
+    }
+
+    /// The same at another time than 0.
+    pub fn stream_at(&mut self, time: u32, stream: &[u8]) {
         let (mut work, mut reply) = ([0; LEAST_WORK], [0; LEAST_REPLY]);
         let mut rest = stream;
         while !rest.is_empty() {
-            let Ok(fed) = self.feed(rest, &mut work, &mut reply) else {
+            let Ok(fed) = self.feed(rest, &mut work, &mut reply, time) else {
                 return;
             };
             rest = &rest[fed.consumed..];
@@ -99,6 +106,20 @@ impl Pair {
         let expected = expected.map(|dropped| answers::tickets(&dropped));
         assert_eq!(answer, expected.map_err(answers::refusal));
         self.compare_after(answer.is_err(), &before);
+        answer
+    }
+
+    /// An inquiry, which leaves the session as it is.
+    pub fn stale(&self, time: u32, limit: u32) -> Result<Tickets, Refusal> {
+        let answer = self.library.stale(time, limit);
+        let expected = self.reference.stale(time, limit);
+        let expected = expected.map(|stale| answers::tickets(&stale));
+        let pending = self.reference.pending();
+        assert_eq!(
+            answer,
+            expected.map_err(answers::refusal),
+            "stale at {time} by {limit} of {pending:?}"
+        );
         answer
     }
 

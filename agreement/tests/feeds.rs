@@ -36,7 +36,7 @@ fn compare(
     let (mut work, mut reply) = (random.bytes(work), random.bytes(reply));
     let (mut pair, _) = Pair::open(devices, devices.len());
     pair.stream(cut.before);
-    let answer = pair.feed(cut.piece, &mut work, &mut reply);
+    let answer = pair.feed(cut.piece, &mut work, &mut reply, 0);
     let consumed = answer.map_or(0, |fed| fed.consumed);
     pair.stream(&[&cut.piece[consumed..], cut.tail].concat());
     answer

@@ -16,7 +16,7 @@ fn compare(devices: &[Device], random: &mut Random) -> usize {
     assert_eq!(opened, Ok(()));
     let mut work = random.bytes(LEAST_WORK);
     let mut reply = random.bytes(LEAST_REPLY);
-    let fed = pair.feed(&op_req_devlist(), &mut work, &mut reply);
+    let fed = pair.feed(&op_req_devlist(), &mut work, &mut reply, 0);
     let fed = fed.expect("the session waits");
     assert_eq!(fed.event, Event::List);
     assert!(reply[..fed.length] == op_rep_devlist(devices));

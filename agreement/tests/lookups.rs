@@ -33,7 +33,7 @@ fn import(held: &[Device], count: usize, busid: &Busid) -> Option<usize> {
     let (mut pair, opened) = Pair::open(held, count);
     assert_eq!(opened, Ok(()));
     let (mut work, mut reply) = ([0; LEAST_WORK], [0; LEAST_REPLY]);
-    let fed = pair.feed(&op_req_import(busid), &mut work, &mut reply);
+    let fed = pair.feed(&op_req_import(busid), &mut work, &mut reply, 0);
     let fed = fed.expect("the session waits");
     let place = table::find(&held[..count], busid);
     let device = place.map(|place| &held[place]);

@@ -109,7 +109,7 @@ fn attached(devices: &[Device], random: &mut Random) -> Session {
         ..submit(6, devid)
     };
     let piece = &with_data(&out, random)[..HEADER_SIZE + OUT_LENGTH / 2];
-    let fed = session.feed(piece, &mut [0; LEAST_WORK], &mut [0; LEAST_REPLY]);
+    let fed = session.feed(piece, &mut [0; LEAST_WORK], &mut [0; LEAST_REPLY], 0);
     assert!(fed.is_ok());
     session
 }
@@ -125,10 +125,13 @@ fn is_served(session: &Session, what: &str) -> bool {
         session.clone(),
     ];
     let answers = [
-        next[0].feed(&[], &mut work, &mut reply).map(|_| ()),
-        next[1].feed(&[1; 1_000], &mut work, &mut reply).map(|_| ()),
+        next[0].feed(&[], &mut work, &mut reply, 0).map(|_| ()),
+        next[1]
+            .feed(&[1; 1_000], &mut work, &mut reply, 0)
+            .map(|_| ()),
         next[2].complete(TICKET, 0, 0, &[], &mut header).map(|_| ()),
         next[3].close().map(|_| ()),
+        session.stale(0, 0).map(|_| ()),
     ];
     let refused = answers.map(|answer| answer == Err(Refusal::SESSION_CLOSED));
     let served = refused.contains(&false);

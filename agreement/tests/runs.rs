@@ -26,6 +26,8 @@ struct Run<'a> {
     work: Vec<u8>,
     reply: Vec<u8>,
     frame: Vec<u8>,
+    /// The host's clock, often near where it wraps.
+    time: u32,
     reached: &'a mut Reached,
 }
 
@@ -42,6 +44,7 @@ impl Run<'_> {
             work: random.bytes(LEAST_WORK),
             reply: random.bytes(LEAST_REPLY),
             frame: random.bytes(FRAME),
+            time: random.pick(&[0, u32::MAX - 100, 0x8000_0000]),
             random,
             reached,
         }
@@ -49,6 +52,8 @@ impl Run<'_> {
 
     fn play(&mut self) {
         for _ in 0..ACTS {
+            self.time = self.time.wrapping_add(self.random.below(8) as u32);
+            self.inquire();
             match self.random.below(100) {
                 0 => self.close(),
                 percent if percent <= self.diligence => self.complete(),
@@ -75,7 +80,7 @@ impl Run<'_> {
         let reply = self.usually(LEAST_REPLY, LEAST_REPLY - 1);
         let piece = &self.stream[..size.min(self.stream.len())];
         let (work, reply) = (&mut self.work[..work], &mut self.reply[..reply]);
-        let answer = self.pair.feed(piece, work, reply);
+        let answer = self.pair.feed(piece, work, reply, self.time);
         self.reached.add(feed_kind(&answer));
         let Ok(fed) = answer else {
             return;
@@ -117,6 +122,28 @@ impl Run<'_> {
         (urb.ticket, urb.transfer_buffer_length as usize)
     }
 
+    /// With a limit that is just the age of a pending URB, or one less or more, or any.
+    fn inquire(&mut self) {
+        let pending = self.pair.reference.pending();
+        let near = match pending.len() {
+            0 => 0,
+            count => {
+                let arrival = pending[self.random.below(count)].arrival;
+                self.time.wrapping_sub(arrival)
+            }
+        };
+        let any = self.random.next_u32();
+        let limits = [near, near.wrapping_sub(1), near.wrapping_add(1), 0, any];
+        let limit = self.random.pick(&limits);
+        let count = pending.len();
+        self.reached.add(match self.pair.stale(self.time, limit) {
+            Ok(stale) if stale.is_empty() => "none is stale".to_string(),
+            Ok(stale) if stale.len() == count => "all are stale".to_string(),
+            Ok(_) => "some are stale".to_string(),
+            Err(refusal) => format!("inquiry refused {}", refusal.number()),
+        });
+    }
+
     fn close(&mut self) {
         self.reached.add(match self.pair.close() {
             Ok(dropped) => dropping("a close", dropped.len()),
@@ -134,7 +161,7 @@ fn dropping(what: &str, count: usize) -> String {
 }
 
 #[test]
-fn feeds_completions_and_closes_in_any_order() {
+fn feeds_completions_inquiries_and_closes_in_any_order() {
     let mut reached = Reached::default();
     for seed in 0..RUNS {
         Run::new(seed, &mut reached).play();
@@ -154,6 +181,10 @@ fn feeds_completions_and_closes_in_any_order() {
         "a close drops some",
         "a close drops 32",
         "close refused 3",
+        "none is stale",
+        "some are stale",
+        "all are stale",
+        "inquiry refused 3",
     ];
     reached.expect_exactly(&[&FEEDS[..], &others].concat());
     assert!(reached.total() >= 200_000);

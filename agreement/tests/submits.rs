@@ -35,7 +35,7 @@ fn moved_on(session: &Session, devid: u32, accepted: u64) -> Session {
 
 fn event(session: &mut Session, submit: &CmdSubmit) -> Event {
     let (mut work, mut reply) = ([0; LEAST_WORK], [0; LEAST_REPLY]);
-    let fed = session.feed(&submit.header(), &mut work, &mut reply);
+    let fed = session.feed(&submit.header(), &mut work, &mut reply, 0);
     fed.expect("the session's parts fit together").event
 }
 

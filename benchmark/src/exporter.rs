@@ -36,7 +36,7 @@ impl Exporter for Session {
     }
 
     fn feed(&mut self, piece: &[u8], work: &mut [u8], reply: &mut [u8]) -> Fed {
-        let fed = black_box(self.feed(piece, work, reply)).expect("the session isn't closed");
+        let fed = black_box(self.feed(piece, work, reply, 0)).expect("the session isn't closed");
         Fed {
             consumed: fed.consumed,
             length: fed.length,
@@ -71,7 +71,7 @@ impl Exporter for PlainSession {
     }
 
     fn feed(&mut self, piece: &[u8], work: &mut [u8], reply: &mut [u8]) -> Fed {
-        let fed = black_box(self.feed(piece, work, reply));
+        let fed = black_box(self.feed(piece, work, reply, 0));
         Fed {
             consumed: fed.consumed,
             length: fed.length,

@@ -69,7 +69,8 @@ impl<W: Write> Player<W> {
     /// Feeds the piece until it is used up or the session closed.
     fn feed(&mut self, mut piece: &[u8]) -> io::Result<()> {
         while !piece.is_empty() {
-            let fed = self.session.feed(piece, &mut self.work, &mut self.reply);
+            // A tape has no times: all its pieces come at 0.
+            let fed = self.session.feed(piece, &mut self.work, &mut self.reply, 0);
             self.write_event(&fed.event)?;
             if self.detail == Detail::Bytes {
                 self.write_fed(&fed)?;

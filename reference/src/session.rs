@@ -15,6 +15,8 @@ pub const MAX_EP: u32 = 15;
 pub const MAX_PENDING: usize = 32;
 pub const LEAST_WORK: usize = MAX_TRANSFER_BUFFER_LENGTH as usize;
 pub const LEAST_REPLY: usize = 8_192;
+/// A time is a number of 32 bits: after this many milliseconds it is 0 again.
+const CLOCK_ROUND: u64 = 1 << 32;
 
 /// An accepted submit. The device side knows it by its ticket only.
 #[derive(Clone, Debug, PartialEq, Eq)]
@@ -29,6 +31,8 @@ pub struct Urb {
     pub number_of_packets: u32,
     pub interval: u32,
     pub setup: [u8; 8],
+    /// The time given with the feed that took the submit's last byte.
+    pub arrival: u32,
 }
 
 #[derive(Clone, Debug, PartialEq, Eq)]
@@ -160,8 +164,8 @@ impl Session {
         }
     }
 
-    /// Takes a piece of the stream up to the end of its first message.
-    pub fn feed(&mut self, piece: &[u8], work: &mut [u8], reply: &mut [u8]) -> Fed {
+    /// Takes a piece of the stream up to the end of its first message, at a time.
+    pub fn feed(&mut self, piece: &[u8], work: &mut [u8], reply: &mut [u8], time: u32) -> Fed {
         if let Some(refusal) = self.refuses_feed(work, reply) {
             return Fed {
                 consumed: 0,
@@ -171,7 +175,7 @@ impl Session {
         }
         let mut rest = piece;
         let (event, answer) = match self.state {
-            State::Attached { devid } => self.read_command(devid, &mut rest, work),
+            State::Attached { devid } => self.read_command(devid, &mut rest, work, time),
             _ => self.read_request(&mut rest),
         };
         if event != Event::Hungry {
@@ -235,6 +239,20 @@ impl Session {
         Ok(self.end())
     }
 
+    /// The tickets of the pending URBs that at this time are as old as the limit or older.
+    pub fn stale(&self, time: u32, limit: u32) -> Result<Vec<u64>, Refusal> {
+        if self.is_closed() {
+            return Err(Refusal::Closed);
+        }
+        let old = |urb: &&Urb| age(urb, time) >= u64::from(limit);
+        Ok(self
+            .pending
+            .iter()
+            .filter(old)
+            .map(|urb| urb.ticket)
+            .collect())
+    }
+
     fn refuses_feed(&self, work: &[u8], reply: &[u8]) -> Option<Refusal> {
         if self.is_closed() {
             Some(Refusal::Closed)
@@ -286,7 +304,7 @@ impl Session {
         (Event::Import { status }, reply)
     }
 
-    fn read_command(&mut self, devid: u32, rest: &mut &[u8], work: &mut [u8]) -> Answer {
+    fn read_command(&mut self, devid: u32, rest: &mut &[u8], work: &mut [u8], time: u32) -> Answer {
         let header_was_in = self.head.len() == HEADER_SIZE;
         if !self.fill_head(HEADER_SIZE, rest) {
             return HUNGRY;
@@ -305,7 +323,7 @@ impl Session {
         if !self.fill_work(submit.data_size(), rest, work) {
             return HUNGRY;
         }
-        self.judge(&submit, devid)
+        self.judge(&submit, devid, time)
     }
 
     fn read_unlink(&mut self, unlink: &CmdUnlink, devid: u32) -> Answer {
@@ -334,9 +352,9 @@ impl Session {
     }
 
     /// Accepts or answers a submit whose last byte is in.
-    fn judge(&mut self, submit: &CmdSubmit, devid: u32) -> Answer {
+    fn judge(&mut self, submit: &CmdSubmit, devid: u32, time: u32) -> Answer {
         let Some(status) = refuses_submit(submit, devid, self.pending.len(), self.accepted) else {
-            return self.accept(submit);
+            return self.accept(submit, time);
         };
         let seqnum = submit.seqnum;
         let ret = RetSubmit {
@@ -350,7 +368,7 @@ impl Session {
         (event, ret.header().to_vec())
     }
 
-    fn accept(&mut self, submit: &CmdSubmit) -> Answer {
+    fn accept(&mut self, submit: &CmdSubmit, time: u32) -> Answer {
         self.accepted += 1;
         let urb = Urb {
             ticket: self.accepted,
@@ -363,6 +381,7 @@ impl Session {
             number_of_packets: submit.number_of_packets,
             interval: submit.interval,
             setup: submit.setup,
+            arrival: time,
         };
         self.pending.push(urb.clone());
         (Event::Accepted(urb), Vec::new())
@@ -475,6 +494,16 @@ fn status_sent(urb: &Urb, status: i32, actual_length: u32) -> i32 {
         -EREMOTEIO
     } else {
         status
+    }
+}
+
+/// How long ago a URB arrived, if less than a round of the clock ago.
+fn age(urb: &Urb, time: u32) -> u64 {
+    let (arrival, time) = (u64::from(urb.arrival), u64::from(time));
+    if arrival <= time {
+        time - arrival
+    } else {
+        time + CLOCK_ROUND - arrival
     }
 }
 

@@ -98,7 +98,9 @@ impl Host {
     /// All of a piece, message by message.
     fn feed(&mut self, mut piece: &[u8]) -> Result<(), Box<dyn Error>> {
         while !piece.is_empty() {
-            let fed = self.session.feed(piece, &mut self.work, &mut self.reply)?;
+            // Nothing waits here, so that nothing is asked of the time.
+            let (work, reply) = (&mut self.work, &mut self.reply);
+            let fed = self.session.feed(piece, work, reply, 0)?;
             piece = &piece[fed.consumed..];
             match fed.event {
                 Event::Submit {

@@ -27,6 +27,8 @@ pub enum Event {
         transfer: Transfer,
         /// The SETUP packet of a control transfer.
         setup: [u8; SETUP_LEN],
+        /// The time that was given with this feed.
+        arrival: u32,
     },
     /// A refused submit: its RET_SUBMIT is the reply.
     Answer {
@@ -66,6 +68,7 @@ impl Event {
                 ticket: event.ticket,
                 transfer: event.transfer,
                 setup: event.setup,
+                arrival: event.arrival,
             },
             sys::ANSWER => Event::Answer { seqnum, status },
             sys::UNLINK => Event::Unlink {

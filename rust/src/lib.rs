@@ -18,15 +18,18 @@
 //! // OP_REQ_IMPORT: version, code, status, and a busid of 32 bytes.
 //! let mut import = [0; 40];
 //! import[..11].copy_from_slice(b"\x01\x11\x80\x03\0\0\0\x001-1");
-//! let fed = session.feed(&import, &mut work, &mut reply)?;
+//! let fed = session.feed(&import, &mut work, &mut reply, 0)?;
 //! assert_eq!(fed.event, Event::Import { status: 0 });
 //! assert_eq!((fed.consumed, fed.length), (40, 320)); // the client gets reply[..320]
 //!
 //! // USBIP_CMD_SUBMIT: seqnum 7, devid, IN, ep 1, no flags, four bytes.
 //! let words: [u32; 12] = [1, 7, 0x0001_000f, 1, 1, 0, 4, 0, 0, 0, 0, 0];
 //! let submit = words.map(u32::to_be_bytes).concat();
-//! let fed = session.feed(&submit, &mut work, &mut reply)?;
+//! let fed = session.feed(&submit, &mut work, &mut reply, 1_000)?;
 //! assert_eq!(fed.event.to_string(), "submit: ticket 1, seqnum 7, IN, ep 1, length 4");
+//!
+//! // Five seconds later the device isn't done: a host may complete the submit with an error, or wait.
+//! assert_eq!(session.stale(6_000, 5_000)?[..], [1]);
 //!
 //! // The device is done with ticket 1. The socket takes ten bytes at a time, lent from the header and the data.
 //! let (data, mut header) = (*b"tuna", [0; HEADER_LEN]);

@@ -48,11 +48,15 @@ impl Session {
     /// OUT data goes to the work buffer as it comes, from 0 on: lend the same one until its message ends, and copy
     /// the data before the next feed. `work` has at least [`WORK_LEN`](crate::WORK_LEN) bytes, `reply` at least
     /// [`REPLY_LEN`](crate::REPLY_LEN).
+    ///
+    /// The time is in milliseconds, from any start, and wraps. An accepted submit keeps the time of the feed that takes
+    /// its last byte, for [`stale`](Session::stale); it has no other effect, and a host that never asks may give 0.
     pub fn feed(
         &mut self,
         piece: &[u8],
         work: &mut [u8],
         reply: &mut [u8],
+        time: u32,
     ) -> Result<Fed, Refusal> {
         // SAFETY: pointers and lengths are those of slices, of which none that is written to overlaps another.
         let fed = unsafe {
@@ -64,6 +68,7 @@ impl Session {
                 work.len(),
                 reply.as_mut_ptr(),
                 reply.len(),
+                time,
             )
         };
         self.0 = fed.session;
@@ -115,6 +120,14 @@ impl Session {
         self.0 = closed.session;
         refused(closed.refusal)?;
         Ok(Tickets::from(closed.dropped))
+    }
+
+    /// Which pending submits are stale: those whose age, `time` less arrival modulo 2^32, is at least `limit`
+    /// milliseconds. Nothing is removed.
+    pub fn stale(&self, time: u32, limit: u32) -> Result<Tickets, Refusal> {
+        let inquired = sys::rimemaple_stale(self.0, time, limit);
+        refused(inquired.refusal)?;
+        Ok(Tickets::from(inquired.stale))
     }
 
     /// How many submits were accepted, and what became of them.

@@ -5,7 +5,7 @@
 //! compares every constant and the place and size of every field with the header's.
 
 /// The version of the face that is declared here.
-pub const VERSION: u32 = 4;
+pub const VERSION: u32 = 5;
 
 /// Devices of a table, at most.
 pub const MAX_DEVICES: usize = 16;
@@ -222,6 +222,8 @@ pub struct Urb {
     pub transfer: Transfer,
     /// The submit's SETUP packet.
     pub setup: [u8; SETUP_LEN],
+    /// The time given with the feed that accepted it.
+    pub arrival: u32,
 }
 
 /// The pending URBs, lowest ticket first.
@@ -279,6 +281,8 @@ pub struct Event {
     pub transfer: Transfer,
     /// An accepted submit's SETUP packet.
     pub setup: [u8; SETUP_LEN],
+    /// An accepted submit's arrival: the time given with this feed.
+    pub arrival: u32,
 }
 
 /// What [`rimemaple_open`] answers.
@@ -331,6 +335,16 @@ pub struct Closed {
     pub refusal: u32,
     /// What was pending.
     pub dropped: Tickets,
+}
+
+/// What [`rimemaple_stale`] answers.
+#[repr(C)]
+#[derive(Clone, Copy, Debug, PartialEq, Eq)]
+pub struct Inquired {
+    /// 0 or [`SESSION_CLOSED`].
+    pub refusal: u32,
+    /// The stale tickets.
+    pub stale: Tickets,
 }
 
 /// A session's numbers: the first is the sum of the others.
@@ -386,7 +400,7 @@ unsafe extern "C" {
     /// A session over a table.
     pub safe fn rimemaple_open(table: Table) -> Opened;
 
-    /// A piece of the client's stream.
+    /// A piece of the client's stream, and the time.
     ///
     /// # Safety
     ///
@@ -400,6 +414,7 @@ unsafe extern "C" {
         work_length: usize,
         reply: *mut u8,
         reply_length: usize,
+        time: u32,
     ) -> Fed;
 
     /// The device is done with a ticket.
@@ -421,6 +436,9 @@ unsafe extern "C" {
 
     /// The connection ended.
     pub safe fn rimemaple_close(session: Session) -> Closed;
+
+    /// The tickets of the pending URBs that are at least `limit` old.
+    pub safe fn rimemaple_stale(session: Session, time: u32, limit: u32) -> Inquired;
 
     /// How many URBs were accepted, and what became of them.
     pub safe fn rimemaple_numbers(session: Session) -> Numbers;

@@ -98,7 +98,8 @@ fn a_submit_comes_with_every_field() {
         ticket,
         transfer,
         setup,
-    } = Host::attached().event(&header(&words))
+        arrival,
+    } = Host::attached().feed_at(16, &header(&words)).unwrap().event
     else {
         panic!("not accepted");
     };
@@ -112,6 +113,7 @@ fn a_submit_comes_with_every_field() {
         (14, u32::MAX, 15)
     );
     assert_eq!(setup, [1, 2, 3, 4, 5, 6, 7, 8]);
+    assert_eq!(arrival, 16);
 }
 
 #[test]
@@ -228,6 +230,30 @@ fn a_short_read_is_sent_with_121_if_the_client_asked() {
         assert_eq!(header[20..24], status.to_be_bytes());
         assert_eq!(header[24..28], actual.to_be_bytes());
     }
+}
+
+#[test]
+fn stale_submits_are_told_and_stay() {
+    let mut host = Host::attached();
+    for (seqnum, time) in [(1, 0xffff_fff0), (2, 0xffff_ffff), (3, 0), (4, 0x10)] {
+        host.feed_at(time, &submit(seqnum, 64)).unwrap();
+    }
+    let before = host.session.clone();
+    for (time, limit, expected) in [
+        (0x10, 0x20, &[1][..]),
+        (0x10, 0x21, &[]),
+        (0x10, 0x10, &[1, 2, 3]),
+        (0x10, 0, &[1, 2, 3, 4]),
+        (0x0f, 0xffff_ffff, &[4]),
+    ] {
+        assert_eq!(host.session.stale(time, limit).as_deref(), Ok(expected));
+    }
+    assert_eq!(host.session, before);
+    host.session.close().unwrap();
+    assert_eq!(
+        host.session.stale(0, 0).unwrap_err(),
+        Refusal::SESSION_CLOSED
+    );
 }
 
 #[test]

@@ -30,13 +30,18 @@ fn event(kind: u32, number: u32, status: i32, seqnum: u32, removed: u64) -> Even
         ticket: 0,
         transfer: NO_TRANSFER,
         setup: [0; SETUP_LEN],
+        arrival: 0,
     }
 }
+
+/// When the pieces are fed.
+const TIME: u32 = 0x0102_0304;
 
 /// The event of `submit(7, 64)`.
 fn accepted(ticket: u64) -> Event {
     Event {
         ticket,
+        arrival: TIME,
         transfer: Transfer {
             seqnum: 7,
             direction: sys::DIR_IN,
@@ -60,6 +65,7 @@ fn feed(session: Session, piece: &[u8]) -> Fed {
             work.len(),
             reply.as_mut_ptr(),
             reply.len(),
+            TIME,
         )
     }
 }
@@ -115,7 +121,7 @@ fn an_empty_slice_may_be_null() {
     let mut header = [0; HEADER_LEN];
     // SAFETY: pointers and lengths are those of slices, or null and 0.
     unsafe {
-        let fed = sys::rimemaple_feed(session, null(), 0, null_mut(), 0, null_mut(), 0);
+        let fed = sys::rimemaple_feed(session, null(), 0, null_mut(), 0, null_mut(), 0, 0);
         assert_eq!(
             (fed.event.kind, fed.event.number),
             (sys::REFUSED, sys::SHORT_BUFFER)

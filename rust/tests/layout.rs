@@ -59,15 +59,16 @@ structs! {
     Progress { head filled header body }
     Counts { accepted returned unlinked dropped }
     Link { phase devid progress counts }
-    Urb { ticket transfer setup }
+    Urb { ticket transfer setup arrival }
     Pending { urbs count }
     Session { table link pending }
     Tickets { tickets count }
-    Event { kind number status seqnum at removed ticket transfer setup }
+    Event { kind number status seqnum at removed ticket transfer setup arrival }
     Opened { session refusal }
     Fed { session event consumed length dropped }
     Completed { session refusal status length }
     Closed { session refusal dropped }
+    Inquired { refusal stale }
     Numbers { accepted pending returned unlinked dropped }
     Part { slice at length }
     Limits { devices interfaces pending transfer work reply header }

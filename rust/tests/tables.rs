@@ -72,7 +72,7 @@ fn every_field_of_a_device_is_listed() {
     let (mut work, mut reply) = ([0; WORK_LEN], [0; REPLY_LEN]);
     let mut session = open(&[camera]).unwrap();
     let fed = session
-        .feed(b"\x01\x11\x80\x05\0\0\0\0", &mut work, &mut reply)
+        .feed(b"\x01\x11\x80\x05\0\0\0\0", &mut work, &mut reply, 0)
         .unwrap();
     assert_eq!((fed.event, fed.length), (Event::List, 12 + 312 + 2 * 4));
     let mut expected = b"\x01\x11\0\x05\0\0\0\0\0\0\0\x01/sys/3-2".to_vec();

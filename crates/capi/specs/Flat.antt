@@ -19,15 +19,19 @@ use Rattle.events.specs.declared.answer.Completion.{Completion}
 use Rattle.events.specs.declared.answer.Completion.the-variants.{Return, Refused as CompletionRefused}
 use Rattle.events.specs.declared.answer.Closing.{Closing}
 use Rattle.events.specs.declared.answer.Closing.the-variants.{End, Refused as ClosingRefused}
+use Rattle.events.specs.declared.answer.Inquiry.{Inquiry}
+use Rattle.events.specs.declared.answer.Inquiry.the-variants.{Listed as StaleListed, Refused as InquiryRefused}
 use Rattle.session.specs.declared.answer.Opened.{Opened}
 use Rattle.session.specs.declared.answer.Fed.{Fed}
 use Rattle.session.specs.declared.answer.Completed.{Completed}
 use Rattle.session.specs.declared.answer.Closed.{Closed}
+use Rattle.session.specs.declared.answer.Inquired.{Inquired}
 use Rattle.capi.specs.declared.flat.FlatEvent.{FlatEvent}
 use Rattle.capi.specs.declared.flat.FlatOpened.{FlatOpened}
 use Rattle.capi.specs.declared.flat.FlatFed.{FlatFed}
 use Rattle.capi.specs.declared.flat.FlatCompleted.{FlatCompleted}
 use Rattle.capi.specs.declared.flat.FlatClosed.{FlatClosed}
+use Rattle.capi.specs.declared.flat.FlatInquired.{FlatInquired}
 use Rattle.capi.specs.declared.flat.FlatNumbers.{FlatNumbers}
 use Rattle.capi.specs.declared.sending.FlatPart.{FlatPart}
 use Rattle.capi.specs.declared.about.FlatLimits.{FlatLimits}
@@ -59,8 +63,8 @@ BREAK = 6
 abbrev pub REFUSED : ℕ
 REFUSED = 7
 
-abbrev pub eventRow : (kind number status seqnum at removed ticket : ℕ) → Transfer → (setup : List ℕ) → FlatEvent
-eventRow kind number status seqnum at removed ticket transfer setup =
+abbrev pub eventRow : (kind number status seqnum at removed ticket : ℕ) → Transfer → (setup : List ℕ) → (arrival : ℕ) → FlatEvent
+eventRow kind number status seqnum at removed ticket transfer setup arrival =
     record {
       kind = kind;
       number = number;
@@ -71,6 +75,7 @@ eventRow kind number status seqnum at removed ticket transfer setup =
       ticket = ticket;
       transfer = transfer;
       setup = setup;
+      arrival = arrival;
     }
 
 -- Tickets count from 1, so that 0 is none.
@@ -78,16 +83,16 @@ abbrev pub removedTicket : Removed → ℕ
 removedTicket (Ticket t) = t
 removedTicket Nothing = 0
 
--- What an event doesn't have is 0.     kind    number      status  seqnum  at      removed            ticket  transfer
+-- What an event doesn't have is 0.     kind    number      status  seqnum  at      removed            ticket  transfer   setup  arrival
 abbrev pub flatEvent : Event → List ℕ → FlatEvent
-flatEvent Hungry setup = eventRow HUNGRY 0 0 0 0 0 0 noTransfer setup
-flatEvent Listed setup = eventRow LIST 0 0 0 0 0 0 noTransfer setup
-flatEvent (Import st) setup = eventRow IMPORT 0 st 0 0 0 0 noTransfer setup
-flatEvent (Submit t u) setup = eventRow SUBMIT 0 0 0 0 0 t u setup
-flatEvent (Answer q st) setup = eventRow ANSWER 0 st q 0 0 0 noTransfer setup
-flatEvent (Unlink q st r) setup = eventRow UNLINK 0 st q 0 (removedTicket r) 0 noTransfer setup
-flatEvent (Break f) setup = eventRow BREAK (f .number) 0 0 (f .at) 0 0 noTransfer setup
-flatEvent (Refused n) setup = eventRow REFUSED n 0 0 0 0 0 noTransfer setup
+flatEvent Hungry setup = eventRow HUNGRY 0 0 0 0 0 0 noTransfer setup 0
+flatEvent Listed setup = eventRow LIST 0 0 0 0 0 0 noTransfer setup 0
+flatEvent (Import st) setup = eventRow IMPORT 0 st 0 0 0 0 noTransfer setup 0
+flatEvent (Submit t a u) setup = eventRow SUBMIT 0 0 0 0 0 t u setup a
+flatEvent (Answer q st) setup = eventRow ANSWER 0 st q 0 0 0 noTransfer setup 0
+flatEvent (Unlink q st r) setup = eventRow UNLINK 0 st q 0 (removedTicket r) 0 noTransfer setup 0
+flatEvent (Break f) setup = eventRow BREAK (f .number) 0 0 (f .at) 0 0 noTransfer setup 0
+flatEvent (Refused n) setup = eventRow REFUSED n 0 0 0 0 0 noTransfer setup 0
 
 -- ## What the acts hand back: 0, or a refusal's number
 
@@ -111,6 +116,10 @@ abbrev pub closingNumber : Closing → ℕ
 closingNumber End = 0
 closingNumber (ClosingRefused n) = n
 
+abbrev pub inquiryNumber : Inquiry → ℕ
+inquiryNumber StaleListed = 0
+inquiryNumber (InquiryRefused n) = n
+
 abbrev pub flatOpened : Opened → FlatOpened
 flatOpened r = record { session = r .session; refusal = openingNumber (r .answer) }
 
@@ -132,6 +141,9 @@ flatCompleted r =
 
 abbrev pub flatClosed : Closed → FlatClosed
 flatClosed r = record { session = r .session; refusal = closingNumber (r .answer); dropped = r .dropped }
+
+abbrev pub flatInquired : Inquired → FlatInquired
+flatInquired r = record { refusal = inquiryNumber (r .answer); stale = r .stale }
 
 abbrev pub flatNumbers : Numbers → FlatNumbers
 flatNumbers n =
@@ -162,7 +174,7 @@ bytesAt p header payload = take (p .length) (drop (p .at) (cond (eqb (p .slice) 
 
 -- It rises with each change of a function, a struct or an answer.
 abbrev pub FACE-VERSION : ℕ
-FACE-VERSION = 4
+FACE-VERSION = 5
 
 abbrev pub flatLimits : FlatLimits
 flatLimits =

@@ -2,6 +2,7 @@
 use crate::flat::FlatClosed;
 use crate::flat::FlatCompleted;
 use crate::flat::FlatFed;
+use crate::flat::FlatInquired;
 use crate::flat::FlatNumbers;
 use crate::flat::FlatOpened;
 use crate::flat::closing_number;
@@ -9,6 +10,7 @@ use crate::flat::completion_length;
 use crate::flat::completion_number;
 use crate::flat::completion_status;
 use crate::flat::flat_event;
+use crate::flat::inquiry_number;
 use crate::flat::opening_number;
 use exports::device::Table;
 use session::state::Session;
@@ -17,7 +19,7 @@ ghost use Rattle.model.specs.State.{numbersOf, servedDevid};
 ghost use Rattle.model.specs.Cut.{lent};
 ghost use Rattle.session.specs.Views.{viewOf, handed};
 ghost use Rattle.capi.specs.Flat.{flatNumbers};
-ghost use Rattle.capi.specs.Faces.{OpensFlat, FeedsFlat, CompletesFlat, ClosesFlat};
+ghost use Rattle.capi.specs.Faces.{OpensFlat, FeedsFlat, CompletesFlat, ClosesFlat, InquiresFlat};
 
 #[no_mangle]
 pub extern "C" fn rimemaple_open(table: Table) -> FlatOpened
@@ -38,10 +40,12 @@ pub extern "C" fn rimemaple_feed(
     piece: &[u8],
     work: &mut [u8],
     reply: &mut [u8],
+    time: u32,
 ) -> FlatFed
-    ensures { λ r. ⌜ FeedsFlat session (now (piece .entry)) (lent (now (work .entry)) (now (reply .entry))) (lent (now (work .exit)) (now (reply .exit))) r ⌝ }
+    ensures { λ r.
+        ⌜ FeedsFlat session (now (piece .entry)) (lent (now (work .entry)) (now (reply .entry))) (lent (now (work .exit)) (now (reply .exit))) time r ⌝ }
 {
-    let fed = session.feed(piece, work, reply);
+    let fed = session.feed(piece, work, reply, time);
     let next = fed.session;
     let answer = fed.answer;
     let event = answer.event;
@@ -90,6 +94,20 @@ pub extern "C" fn rimemaple_close(session: Session) -> FlatClosed
         session: next,
         refusal: closing_number(answer),
         dropped: dropped,
+    }
+}
+
+// The tickets of the pending URBs whose age at a time is at least a limit; nothing changes.
+#[no_mangle]
+pub extern "C" fn rimemaple_stale(session: Session, time: u32, limit: u32) -> FlatInquired
+    ensures { λ r. ⌜ InquiresFlat session time limit r ⌝ }
+{
+    let inquired = session.stale(time, limit);
+    let answer = inquired.answer;
+    let stale = inquired.stale;
+    FlatInquired {
+        refusal: inquiry_number(answer),
+        stale: stale,
     }
 }
 

@@ -2,6 +2,7 @@
 use events::answer::Closing;
 use events::answer::Completion;
 use events::answer::Event;
+use events::answer::Inquiry;
 use events::answer::Opening;
 use events::answer::Removed;
 use messages::message::Transfer;
@@ -13,6 +14,7 @@ ghost use mathlib.Core.Path.{_≡_};
 ghost use Rattle.pending.specs.Pending.{noTransfer};
 ghost use Rattle.capi.specs.Flat;
 ghost use Rattle.capi.specs.Flat.{eventRow, removedTicket, flatEvent, openingNumber, completionNumber, completionStatus, completionLength, closingNumber};
+ghost use Rattle.capi.specs.Flat.{inquiryNumber};
 
 // The kinds of an event.
 pub const HUNGRY: u32 = 0;
@@ -33,7 +35,7 @@ pub const REFUSED: u32 = 7;
 
 // An event: its kind; the number of a refusal or a break; an import's, answer's or unlink's status; an answer's or unlink's seqnum;
 // the byte of its message at which a break's fault stands; the ticket that an unlink removed, 0 if none; an accepted submit's ticket,
-// transfer and setup bytes. What an event doesn't have is 0.
+// transfer, setup bytes and arrival. What an event doesn't have is 0.
 #[repr(C)]
 pub struct FlatEvent {
     pub kind: u32,
@@ -45,6 +47,7 @@ pub struct FlatEvent {
     pub ticket: u64,
     pub transfer: Transfer,
     pub setup: [u8; SETUP_LEN],
+    pub arrival: u32,
 }
 
 // What the acts hand back: the next session; a refusal's number, or 0; and what stands beside.
@@ -78,6 +81,13 @@ pub struct FlatClosed {
     pub dropped: Tickets,
 }
 
+// The stale tickets: an inquiry hands back no session.
+#[repr(C)]
+pub struct FlatInquired {
+    pub refusal: u32,
+    pub stale: Tickets,
+}
+
 #[repr(C)]
 pub struct FlatNumbers {
     pub accepted: u64,
@@ -104,7 +114,7 @@ fn no_transfer() -> Transfer
 
 // An event that has nothing but its kind.
 fn bare(kind: u32, setup: [u8; SETUP_LEN]) -> FlatEvent
-    ensures { λ r. ⌜ r ≡ eventRow kind 0 0 0 0 0 0 noTransfer setup ⌝ }
+    ensures { λ r. ⌜ r ≡ eventRow kind 0 0 0 0 0 0 noTransfer setup 0 ⌝ }
 {
     FlatEvent {
         kind: kind,
@@ -116,6 +126,7 @@ fn bare(kind: u32, setup: [u8; SETUP_LEN]) -> FlatEvent
         ticket: 0,
         transfer: no_transfer(),
         setup: setup,
+        arrival: 0,
     }
 }
 
@@ -130,7 +141,7 @@ fn removed_ticket(removed: Removed) -> u64
 
 // One that has a number.
 fn numbered(kind: u32, number: u32, setup: [u8; SETUP_LEN]) -> FlatEvent
-    ensures { λ r. ⌜ r ≡ eventRow kind number 0 0 0 0 0 noTransfer setup ⌝ }
+    ensures { λ r. ⌜ r ≡ eventRow kind number 0 0 0 0 0 noTransfer setup 0 ⌝ }
 {
     let e = bare(kind, setup);
     FlatEvent {
@@ -141,7 +152,7 @@ fn numbered(kind: u32, number: u32, setup: [u8; SETUP_LEN]) -> FlatEvent
 
 // A break: its fault's number and place.
 fn broken(fault: Fault, setup: [u8; SETUP_LEN]) -> FlatEvent
-    ensures { λ r. ⌜ r ≡ eventRow Flat.BREAK (fault .number) 0 0 (fault .at) 0 0 noTransfer setup ⌝ }
+    ensures { λ r. ⌜ r ≡ eventRow Flat.BREAK (fault .number) 0 0 (fault .at) 0 0 noTransfer setup 0 ⌝ }
 {
     let e = numbered(BREAK, fault.number, setup);
     FlatEvent { at: fault.at, ..e }
@@ -149,7 +160,7 @@ fn broken(fault: Fault, setup: [u8; SETUP_LEN]) -> FlatEvent
 
 // One that has a status, and what stands beside it.
 fn answered(kind: u32, status: u32, seqnum: u32, removed: u64, setup: [u8; SETUP_LEN]) -> FlatEvent
-    ensures { λ r. ⌜ r ≡ eventRow kind 0 status seqnum 0 removed 0 noTransfer setup ⌝ }
+    ensures { λ r. ⌜ r ≡ eventRow kind 0 status seqnum 0 removed 0 noTransfer setup 0 ⌝ }
 {
     let e = bare(kind, setup);
     FlatEvent {
@@ -160,13 +171,14 @@ fn answered(kind: u32, status: u32, seqnum: u32, removed: u64, setup: [u8; SETUP
     }
 }
 
-fn accepted(ticket: u64, transfer: Transfer, setup: [u8; SETUP_LEN]) -> FlatEvent
-    ensures { λ r. ⌜ r ≡ eventRow Flat.SUBMIT 0 0 0 0 0 ticket transfer setup ⌝ }
+fn accepted(ticket: u64, arrival: u32, transfer: Transfer, setup: [u8; SETUP_LEN]) -> FlatEvent
+    ensures { λ r. ⌜ r ≡ eventRow Flat.SUBMIT 0 0 0 0 0 ticket transfer setup arrival ⌝ }
 {
     let e = bare(SUBMIT, setup);
     FlatEvent {
         ticket: ticket,
         transfer: transfer,
+        arrival: arrival,
         ..e
     }
 }
@@ -178,7 +190,7 @@ pub(crate) fn flat_event(event: Event, setup: [u8; SETUP_LEN]) -> FlatEvent
         Event::Hungry => bare(HUNGRY, setup),
         Event::List => bare(LIST, setup),
         Event::Import(status) => answered(IMPORT, status, 0, 0, setup),
-        Event::Submit(ticket, transfer) => accepted(ticket, transfer, setup),
+        Event::Submit(ticket, arrival, transfer) => accepted(ticket, arrival, transfer, setup),
         Event::Answer(seqnum, status) => answered(ANSWER, status, seqnum, 0, setup),
         Event::Unlink(seqnum, status, removed) => {
             let ticket = removed_ticket(removed);
@@ -231,5 +243,14 @@ pub(crate) fn closing_number(answer: Closing) -> u32
     match answer {
         Closing::End => 0,
         Closing::Refused(n) => n,
+    }
+}
+
+pub(crate) fn inquiry_number(answer: Inquiry) -> u32
+    ensures { λ r. ⌜ r ≡ inquiryNumber answer ⌝ }
+{
+    match answer {
+        Inquiry::Listed => 0,
+        Inquiry::Refused(n) => n,
     }
 }

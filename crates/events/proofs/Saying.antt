@@ -183,7 +183,7 @@ room-left h devid n accepted f =
     let c = clear (submitTests h devid n accepted) (submitRows h devid n accepted) (submit-match h devid n accepted) f in
     (lt-of-not-le {n = Limits.MAX-PENDING} {m = n} (λ q. c .1 .1 .0 (inl q)), lt-of-not-le {n = Limits.LAST-TICKET} {m = accepted} (λ q. c .1 .1 .0 (inr q)))
 
-module _ (t : Table) (k : Link) (l : Pending) (h : Header) (body consumed : ℕ) (a : Attached (whole t k l)) (w : Whole l) where
+module _ (t : Table) (k : Link) (l : Pending) (h : Header) (body consumed time : ℕ) (a : Attached (whole t k l)) (w : Whole l) where
   fit : l .count ≤ Limits.MAX-PENDING
   fit = counts-known (k .counts) (l .count) (a .0) .0
 
@@ -197,12 +197,12 @@ module _ (t : Table) (k : Link) (l : Pending) (h : Header) (body consumed : ℕ)
       (sym (a .1)) (keep-clean l)
 
   accepted-says : l .count < Limits.MAX-PENDING → k .counts .accepted < Limits.LAST-TICKET
-      → Says [] (acceptedPlan k (l .count) h consumed) t k l (headed h body) consumed (submit (urbOf (suc (k .counts .accepted)) h))
+      → Says [] (acceptedPlan k (l .count) h consumed time) t k l (headed h body) consumed (submit (urbOf (suc (k .counts .accepted)) time h))
   unfolding replyTo
   accepted-says room b =
       let c = k .counts in
       let next : plus (c .accepted) 1 ≡ suc (c .accepted) = plus-fits (c .accepted) 1 Limits.LAST-TICKET (omega arith) (omega arith) ∙ add-one (c .accepted) in
-      let urb = urbOf (suc (c .accepted)) h in
+      let urb = urbOf (suc (c .accepted)) time h in
       let list = changed l (appends (l .count) urb) in
       let n : list .count ≡ l .count + 1 = append-count l urb room in
       let counts = oneAccepted c in
@@ -214,25 +214,26 @@ module _ (t : Table) (k : Link) (l : Pending) (h : Header) (body consumed : ℕ)
       (sym (a .1))
       (λ y. (changed-whole l (appends (l .count) urb) w, append-sound l urb w (y .1))))
 
-pub submitted-says : (t : Table) (k : Link) (l : Pending) (h : Header) (body consumed : ℕ) → Attached (whole t k l) → Whole l
-    → k .counts .accepted ≤ Limits.LAST-TICKET → let r = submittedPlan k (l .count) h consumed in
-    Says (replyBytes (r .reply)) r t k l (headed h body) consumed (submitted (during (whole t k l) (headed h body)) h)
+pub submitted-says : (t : Table) (k : Link) (l : Pending) (h : Header) (body consumed time : ℕ) → Attached (whole t k l) → Whole l
+    → k .counts .accepted ≤ Limits.LAST-TICKET → let r = submittedPlan k (l .count) h consumed time in
+    Says (replyBytes (r .reply)) r t k l (headed h body) consumed (submitted time (during (whole t k l) (headed h body)) h)
 unfolding submittedPlan submitted decide
-submitted-says t k l h body consumed a w _ =
+submitted-says t k l h body consumed time a w _ =
     rw (view-length l w (counts-known (k .counts) (l .count) (a .0) .0)) (at (first tests) refl)
   where
     tests : List (Test ℕ)
     tests = submitTests h (k .devid) (l .count) (k .counts .accepted)
 
-    at : (o : Option ℕ) → first tests ≡ o → let r = decide o (λ status. answeredPlan k (l .count) h status consumed) (acceptedPlan k (l .count) h consumed) in
+    at : (o : Option ℕ) → first tests ≡ o
+        → let r = decide o (λ status. answeredPlan k (l .count) h status consumed) (acceptedPlan k (l .count) h consumed time) in
         Says (replyBytes (r .reply)) r t k l (headed h body) consumed
-        (decide o (answer (h .transfer .seqnum)) (submit (urbOf (suc (k .counts .accepted)) h)))
-    at none f = let room = room-left h (k .devid) (l .count) (k .counts .accepted) f in accepted-says t k l h body consumed a w (room .0) (room .1)
-    at (some status) f = answered-says t k l h body consumed a w status
+        (decide o (answer (h .transfer .seqnum)) (submit (urbOf (suc (k .counts .accepted)) time h)))
+    at none f = let room = room-left h (k .devid) (l .count) (k .counts .accepted) f in accepted-says t k l h body consumed time a w (room .0) (room .1)
+    at (some status) f = answered-says t k l h body consumed time a w status
 
-pub submitted-padded : (k : Link) (n : ℕ) (h : Header) (consumed : ℕ) → Padded (submittedPlan k n h consumed .link .progress)
+pub submitted-padded : (k : Link) (n : ℕ) (h : Header) (consumed time : ℕ) → Padded (submittedPlan k n h consumed time .link .progress)
 unfolding submittedPlan
-submitted-padded k n h consumed =
+submitted-padded k n h consumed time =
     by-first (λ (r : Plan). Padded (r .link .progress)) (first (submitTests h (k .devid) n (k .counts .accepted))) (λ _ _. none-padded) (λ _. none-padded)
 
 -- ## An unlink

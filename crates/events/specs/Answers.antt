@@ -19,6 +19,8 @@ use Rattle.events.specs.declared.answer.Completion.{Completion}
 use Rattle.events.specs.declared.answer.Completion.the-variants.{Return, Refused as CompletionRefused}
 use Rattle.events.specs.declared.answer.Closing.{Closing}
 use Rattle.events.specs.declared.answer.Closing.the-variants.{End, Refused as ClosingRefused}
+use Rattle.events.specs.declared.answer.Inquiry.{Inquiry}
+use Rattle.events.specs.declared.answer.Inquiry.the-variants.{Listed as StaleListed, Refused as InquiryRefused}
 
 -- The number of a table that breaks a rule.
 abbrev pub openAnswer : Bool → Opening
@@ -34,7 +36,7 @@ abbrev pub eventOf : Case → List ℕ → Tickets → Outcome Event
 eventOf Hungry setup ts = done hungry
 eventOf Listed setup ts = done list
 eventOf (Import st) setup ts = done (import st)
-eventOf (Submit t u) setup ts = done (submit (record { ticket = t; transfer = u; setup = setup }))
+eventOf (Submit t a u) setup ts = done (submit (record { ticket = t; transfer = u; setup = setup; arrival = a }))
 eventOf (Answered q st) setup ts = done (answer q st)
 eventOf (Unlink q st r) setup ts = done (unlink q st (removedOf r))
 eventOf (Break f) setup ts = done (break f (take (ts .count) (ts .tickets)))
@@ -47,6 +49,10 @@ completionOf (CompletionRefused n) = refused n
 abbrev pub closingOf : Closing → Tickets → Outcome (List ℕ)
 closingOf End ts = done (take (ts .count) (ts .tickets))
 closingOf (ClosingRefused n) ts = refused n
+
+abbrev pub inquiryOf : Inquiry → Tickets → Outcome (List ℕ)
+inquiryOf StaleListed ts = done (take (ts .count) (ts .tickets))
+inquiryOf (InquiryRefused n) ts = refused n
 
 -- What stands beside an answer: zeros where it has no use for them.
 abbrev pub noSetup : List ℕ
@@ -65,7 +71,7 @@ setupBeside (refused n) = noSetup
 abbrev pub ticketsOf : List ℕ → Tickets
 ticketsOf ts = record { tickets = zeroPadded ts; count = length ts }
 
--- The tickets that a feed drops, and those that a close does.
+-- The tickets that a feed drops; those that a close drops or an inquiry lists.
 abbrev pub droppedBy : Outcome Event → List ℕ
 droppedBy (done (break f ts)) = ts
 droppedBy (done hungry) = []
@@ -76,6 +82,6 @@ droppedBy (done (answer q st)) = []
 droppedBy (done (unlink q st t)) = []
 droppedBy (refused n) = []
 
-abbrev pub droppedByClose : Outcome (List ℕ) → List ℕ
-droppedByClose (done ts) = ts
-droppedByClose (refused n) = []
+abbrev pub listedBy : Outcome (List ℕ) → List ℕ
+listedBy (done ts) = ts
+listedBy (refused n) = []

@@ -95,17 +95,17 @@ answeredPlan k n h status consumed =
     plain (resting Limits.ATTACHED (k .devid) (k .counts)) (keeps n) (Answer (u .seqnum) status) consumed
     (RetSubmits (record { seqnum = u .seqnum; status = status; actual = 0; start = u .start; packets = u .packets }))
 
-abbrev pub acceptedPlan : Link → ℕ → Header → ℕ → Plan
-acceptedPlan k n h consumed =
+abbrev pub acceptedPlan : Link → ℕ → Header → (consumed time : ℕ) → Plan
+acceptedPlan k n h consumed time =
     let c = k .counts in
     let ticket = plus (c .accepted) 1 in
     let counts : Counts = record { accepted = ticket; returned = c .returned; unlinked = c .unlinked; dropped = c .dropped } in
     withSetup (h .setup)
-    (plain (resting Limits.ATTACHED (k .devid) counts) (appends n (urbOf ticket h)) (Submit ticket (h .transfer)) consumed Silent)
+    (plain (resting Limits.ATTACHED (k .devid) counts) (appends n (urbOf ticket time h)) (Submit ticket time (h .transfer)) consumed Silent)
 
-unfoldable pub submittedPlan : Link → ℕ → Header → ℕ → Plan
-submittedPlan k n h consumed =
-    decide (first (submitTests h (k .devid) n (k .counts .accepted))) (λ status. answeredPlan k n h status consumed) (acceptedPlan k n h consumed)
+unfoldable pub submittedPlan : Link → ℕ → Header → (consumed time : ℕ) → Plan
+submittedPlan k n h consumed time =
+    decide (first (submitTests h (k .devid) n (k .counts .accepted))) (λ status. answeredPlan k n h status consumed) (acceptedPlan k n h consumed time)
 
 abbrev pub unlinkReply : Header → ℕ → Reply
 unlinkReply h status = RetUnlinks (record { seqnum = h .transfer .seqnum; status = status })

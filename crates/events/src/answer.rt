@@ -15,7 +15,7 @@ pub enum Removed {
     Nothing,
 }
 
-// Hungry is the rules' word for a feed that ends within a message. An import has its status; an accepted submit its ticket and
+// Hungry is the rules' word for a feed that ends within a message. An import has its status; an accepted submit its ticket, its arrival and
 // its transfer (the setup bytes stand beside); an answer to a refused submit its seqnum and status; an unlink its own seqnum, its
 // status and the ticket removed. A break is the rules' word for a fault in the stream, which ends the session. A refusal has its
 // number.
@@ -23,7 +23,7 @@ pub enum Event {
     Hungry,
     List,
     Import(u32),
-    Submit(u64, Transfer),
+    Submit(u64, u32, Transfer),
     Answer(u32, u32),
     Unlink(u32, u32, Removed),
     Break(Fault),
@@ -46,5 +46,11 @@ pub enum Completion {
 
 pub enum Closing {
     End,
+    Refused(u32),
+}
+
+// An inquiry lists the stale tickets beside it, or is refused.
+pub enum Inquiry {
+    Listed,
     Refused(u32),
 }

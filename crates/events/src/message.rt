@@ -69,9 +69,9 @@ fn plan_answered(old: Link, pending: usize, h: Header, status: u32, consumed: us
     )
 }
 
-// The record of a submit under a ticket.
-fn urb_of(ticket: u64, h: Header) -> Urb
-    ensures { λ r. ⌜ r ≡ urbOf ticket h ⌝ }
+// The record of a submit under a ticket; a time is given with the feed that takes its last byte.
+fn urb_of(ticket: u64, time: u32, h: Header) -> Urb
+    ensures { λ r. ⌜ r ≡ urbOf ticket time h ⌝ }
 {
     let transfer = h.transfer;
     let setup = h.setup;
@@ -79,12 +79,13 @@ fn urb_of(ticket: u64, h: Header) -> Urb
         ticket: ticket,
         transfer: transfer,
         setup: setup,
+        arrival: time,
     }
 }
 
 // A submit is accepted, with the next ticket.
-fn plan_accepted(old: Link, pending: usize, h: Header, consumed: usize) -> Plan
-    ensures { λ r. ⌜ r ≡ acceptedPlan old pending h consumed ⌝ }
+fn plan_accepted(old: Link, pending: usize, h: Header, consumed: usize, time: u32) -> Plan
+    ensures { λ r. ⌜ r ≡ acceptedPlan old pending h consumed time ⌝ }
 {
     let c = old.counts;
     let ticket = count_plus(c.accepted, 1);
@@ -93,13 +94,13 @@ fn plan_accepted(old: Link, pending: usize, h: Header, consumed: usize) -> Plan
         ..c
     };
     let link = resting_link(ATTACHED, old.devid, counts);
-    let urb = urb_of(ticket, h);
+    let urb = urb_of(ticket, time, h);
     let change = Change::append(pending, urb);
     let transfer = urb.transfer;
     let plan = plain_plan(
         link,
         change,
-        Event::Submit(urb.ticket, transfer),
+        Event::Submit(urb.ticket, urb.arrival, transfer),
         consumed,
         Reply::Silent,
     );
@@ -111,13 +112,13 @@ fn plan_accepted(old: Link, pending: usize, h: Header, consumed: usize) -> Plan
 }
 
 // A submit is judged: its last byte is in.
-pub fn plan_submitted(old: Link, pending: usize, h: Header, consumed: usize) -> Plan
-    ensures { λ r. ⌜ r ≡ submittedPlan old pending h consumed ⌝ }
+pub fn plan_submitted(old: Link, pending: usize, h: Header, consumed: usize, time: u32) -> Plan
+    ensures { λ r. ⌜ r ≡ submittedPlan old pending h consumed time ⌝ }
 {
     let verdict = submit_status(h, old.devid, pending, old.counts.accepted);
     match verdict {
         Acceptance::Answered(status) => plan_answered(old, pending, h, status, consumed),
-        Acceptance::Accepted => plan_accepted(old, pending, h, consumed),
+        Acceptance::Accepted => plan_accepted(old, pending, h, consumed, time),
     }
 }
 

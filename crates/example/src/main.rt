@@ -6,6 +6,7 @@ use rimemaple::BUSID_LEN;
 use rimemaple::Completion;
 use rimemaple::Event;
 use rimemaple::HEADER_LEN;
+use rimemaple::Inquiry;
 use rimemaple::OP_LEN;
 use rimemaple::REPLY_LEN;
 use rimemaple::Removed;
@@ -18,6 +19,9 @@ use tape::table::tape_table;
 const PICTURE_LEN: usize = 64;
 
 const SOCKET_TAKES: usize = 1460;
+
+// After so many milliseconds a request has waited too long.
+const PATIENCE: u32 = 5000;
 
 fn say(words: &[u8], number: u64) {
     io::write_all(STDOUT_FILENO, words);
@@ -33,14 +37,14 @@ fn cancel(removed: Removed) {
 }
 
 // A piece of the stream, which may be cut anywhere; here it is a whole message. OUT data would go to work, and the reply goes to
-// the front of reply.
-fn feed(s: Session, piece: &[u8], work: &mut [u8], reply: &mut [u8]) -> Session {
-    let fed = s.feed(piece, work, reply);
+// the front of reply. The time is in milliseconds, and wraps: an accepted submit keeps it.
+fn feed(s: Session, piece: &[u8], work: &mut [u8], reply: &mut [u8], time: u32) -> Session {
+    let fed = s.feed(piece, work, reply, time);
     let answer = fed.answer;
     let event = answer.event;
     say(b"bytes to the client: ", answer.length as u64);
     match event {
-        Event::Submit(ticket, _) => say(b"the device starts ticket ", ticket),
+        Event::Submit(ticket, _, _) => say(b"the device starts ticket ", ticket),
         Event::Unlink(_, _, removed) => cancel(removed),
         Event::Break(fault) => say(b"the session broke with ", fault.number as u64),
         _ => (),
@@ -48,10 +52,20 @@ fn feed(s: Session, piece: &[u8], work: &mut [u8], reply: &mut [u8]) -> Session 
     fed.session
 }
 
-fn feed_next(s: Session, work: &mut [u8], reply: &mut [u8]) -> Session {
+fn feed_next(s: Session, work: &mut [u8], reply: &mut [u8], time: u32) -> Session {
     let mut message = [0u8; HEADER_LEN];
     io::read_full(STDIN_FILENO, &mut message);
-    feed(s, &message, work, reply)
+    feed(s, &message, work, reply, time)
+}
+
+// Which requests have waited too long. The session stays as it is.
+fn inquire(s: Session, time: u32) {
+    let inquired = s.stale(time, PATIENCE);
+    let answer = inquired.answer;
+    match answer {
+        Inquiry::Listed => say(b"stale requests: ", inquired.stale.count as u64),
+        Inquiry::Refused(number) => say(b"the inquiry is refused with ", number as u64),
+    }
 }
 
 // The device is done with a ticket. What goes out is a part of the header or of the picture, lent and not copied: call `part`
@@ -80,10 +94,11 @@ fn main() {
     let waiting = opened.session;
     let mut request = [0u8; OP_LEN + BUSID_LEN];
     io::read_full(STDIN_FILENO, &mut request);
-    let attached = feed(waiting, &request, &mut work, &mut reply);
-    let asked = feed_next(attached, &mut work, &mut reply);
-    let cancelled = feed_next(asked, &mut work, &mut reply);
-    let again = feed_next(cancelled, &mut work, &mut reply);
+    let attached = feed(waiting, &request, &mut work, &mut reply, 0);
+    let asked = feed_next(attached, &mut work, &mut reply, 1000);
+    let cancelled = feed_next(asked, &mut work, &mut reply, 2000);
+    let again = feed_next(cancelled, &mut work, &mut reply, 3000);
+    inquire(again, 8000);
     let late = complete(again, 1, &picture, &mut header);
     let returned = complete(late, 2, &picture, &mut header);
     let closed = returned.close();

@@ -34,8 +34,9 @@ busid bytes = padded BUSID-LEN bytes
 abbrev pub lentBuffers : Buffers
 lentBuffers = record { work = replicate Limits.WORK-LEN 0; reply = replicate Limits.REPLY-LEN 0xee }
 
+-- At time 0, as the tape gives it.
 abbrev pub fed : List ℕ → Call
-fed piece = feed piece lentBuffers
+fed piece = feed piece lentBuffers 0
 
 abbrev pub words : List ℕ → List ℕ
 words ws = joined (bytesOf 4) ws
@@ -81,7 +82,7 @@ pub record Exchange : Type 0 where
 
 abbrev pub seenOf : Exchange → Seen
 seenOf x =
-    let r = feedOf (sessionFrom (x .table) (x .before)) lentBuffers (x .last) in
+    let r = feedOf (sessionFrom (x .table) (x .before)) lentBuffers (x .last) 0 in
     record { event = r .event; bytes = take 64 (r .buffers .reply); closed = closed (r .next); numbers = numbersOf (r .next) }
 
 abbrev pub said : Exchange → Seen
@@ -107,6 +108,7 @@ intrUrb ticket seqnum ep size =
       transfer =
           record { seqnum = seqnum; direction = 1; ep = ep; flags = 0x200; length = size; start = 0xffffffff; packets = 0; interval = 4 };
       setup = zeroBytes 8;
+      arrival = 0;
     }
 
 abbrev pub minus-19 : List ℕ

@@ -35,15 +35,15 @@ use Rattle.feeding.proofs.Pieces.{Feeds}
 use Rattle.feeding.proofs.Messages.{attached-feeds}
 use Rattle.feeding.proofs.Requests.{waiting-feeds}
 
-module _ (s : Sess) (b : Buffers) (piece : List ℕ) where
-  feed-refused : (n : ℕ) → first (feedTestsOf s b) ≡ some n → fedOf s b piece ≡ resultOf s piece (refusedFeed s b n)
+module _ (s : Sess) (b : Buffers) (piece : List ℕ) (time : ℕ) where
+  feed-refused : (n : ℕ) → first (feedTestsOf s b) ≡ some n → fedOf s b piece time ≡ resultOf s piece (refusedFeed s b n)
   unfolding fedOf feedOf decide
   feed-refused n f = rw f
 
-  feed-goes : first (feedTestsOf s b) ≡ none → fedOf s b piece ≡ fedFrom 0 s b piece
+  feed-goes : first (feedTestsOf s b) ≡ none → fedOf s b piece time ≡ fedFrom time 0 s b piece
   unfolding fedOf feedOf decide fedFrom
   feed-goes f =
-      let x = resultOf s piece (doneFeed (feedBytes s b piece)) in
+      let x = resultOf s piece (doneFeed (feedBytes s b piece time)) in
       rw f (ap (λ (n : ℕ). consuming n x) (sym (zero-add (x .consumed))))
 
 -- in which phase the bytes are taken, as the code tests it: a session that waits or is closed, and one that is attached or is closed
@@ -70,7 +70,7 @@ module _ (k : Link) (n : ℕ) where
       at false b e = refl
 
 -- the plan of a feed, by the verdict on the phase and the buffers
-module _ (t : Table) (k : Link) (l : Pending) (piece : List ℕ) (b : Buffers) (arrays : Arrays k l) (closed : Bool)
+module _ (t : Table) (k : Link) (l : Pending) (piece : List ℕ) (b : Buffers) (time : ℕ) (arrays : Arrays k l) (closed : Bool)
     (e : closed ≡ eqb (phaseOf k (l .count)) Limits.CLOSED) where
   abbrev s : Parts
   s = whole t k l
@@ -85,13 +85,13 @@ module _ (t : Table) (k : Link) (l : Pending) (piece : List ℕ) (b : Buffers) (
   kept = keep-is l (arrays .1)
 
   -- a refusal says nothing, and leaves all as it was
-  composed-refused : (n : ℕ) → first tests ≡ some n → Composed (refusedPlan k (l .count) n) [] t k l piece b
+  composed-refused : (n : ℕ) → first tests ≡ some n → Composed (refusedPlan k (l .count) n) [] t k l piece b time
   composed-refused n f =
       record {
         inside = omega arith;
         fits = omega arith;
         takes = λ _. omega arith;
-        fed = rw kept (sym (feed-refused (viewOfParts s) b piece n (sym tests-are ∙ f)));
+        fed = rw kept (sym (feed-refused (viewOfParts s) b piece time n (sym tests-are ∙ f)));
         same = λ _ _. (refl, refl);
         tidy = λ h. rw kept h;
       }
@@ -102,14 +102,14 @@ module _ (t : Table) (k : Link) (l : Pending) (piece : List ℕ) (b : Buffers) (
     lives = live s (sym e ∙ feed-clear closed (length (b .work)) (length (b .reply)) f .0)
 
     -- what is said of bytes isn't a refusal
-    never : (bytes : List ℕ) (r : Plan) (n : ℕ) → Feeds bytes r t k l 0 (k .progress) piece → r .event ≡ Refused n → ⊥
+    never : (bytes : List ℕ) (r : Plan) (n : ℕ) → Feeds bytes r t k l 0 (k .progress) piece time → r .event ≡ Refused n → ⊥
     unfolding fedFrom
     never bytes r n y z =
         let v = ap (λ (x : Case). eventOf x (r .setup) (ticketsDropped l (r .change))) z in
         let q : _≡_ {A = ℕ} 0 1 = cc (v, ap (λ (x : Result). x .event) (y .fed b)) in
         omega arith
 
-    composed-feed : (bytes : List ℕ) (r : Plan) → Feeds bytes r t k l 0 (k .progress) piece → Composed r bytes t k l piece b
+    composed-feed : (bytes : List ℕ) (r : Plan) → Feeds bytes r t k l 0 (k .progress) piece time → Composed r bytes t k l piece b time
     composed-feed bytes r y =
         let c = feed-clear closed (length (b .work)) (length (b .reply)) f in
         record {
@@ -117,8 +117,8 @@ module _ (t : Table) (k : Link) (l : Pending) (piece : List ℕ) (b : Buffers) (
           fits = omega (arith, y .room, c .1);
           takes = λ h. omega (arith, c .2);
           fed =
-              y .fed b ∙ ap (λ (x : Sess). fedFrom 0 x b piece) (sym (live-view s lives))
-              ∙ sym (feed-goes (viewOfParts s) b piece (sym tests-are ∙ f));
+              y .fed b ∙ ap (λ (x : Sess). fedFrom time 0 x b piece) (sym (live-view s lives))
+              ∙ sym (feed-goes (viewOfParts s) b piece time (sym tests-are ∙ f));
           same = λ n z. absurd (never bytes r n y z);
           tidy = λ h. y .tidy (h .list) (h .head);
         }
@@ -127,26 +127,26 @@ module _ (t : Table) (k : Link) (l : Pending) (piece : List ℕ) (b : Buffers) (
 
 pub message-composed : MessageComposed
 unfolding messagePlan
-message-composed t k l piece b a w =
+message-composed t k l piece b time a w =
     let closed = not (eqb (phaseOf k (l .count)) Limits.ATTACHED) in
     let e = closed-away k (l .count) w in
-    by-first (λ (r : Plan). Composed r (replyBytes (r .reply)) t k l piece b)
+    by-first (λ (r : Plan). Composed r (replyBytes (r .reply)) t k l piece b time)
     (first (Verdicts.feedTests closed (length (b .work)) (length (b .reply))))
-    (composed-refused t k l piece b a closed e)
+    (composed-refused t k l piece b time a closed e)
     (λ f.
-    let h = lives t k l piece b a closed e f in
+    let h = lives t k l piece b time a closed e f in
     let n = attached-known (k .phase) (k .progress) (h .1) w in
-    composed-feed t k l piece b a closed e f _ _ (attached-feeds t k l (h .0, n .0) (a .1) (a .2) piece (a .0) (n .1)))
+    composed-feed t k l piece b time a closed e f _ _ (attached-feeds t k l (h .0, n .0) (a .1) (a .2) piece time (a .0) (n .1)))
 
 pub request-composed : RequestComposed
 unfolding requestPlan
-request-composed t k l piece b a ds w =
+request-composed t k l piece b time a ds w =
     let closed = not (eqb (phaseOf k (l .count)) Limits.WAITING) in
     let e = closed-waits k (l .count) w in
-    by-first (λ (r : RequestPlan). Composed (r .plan) (requestBytes t (r .reply)) t k l piece b)
+    by-first (λ (r : RequestPlan). Composed (r .plan) (requestBytes t (r .reply)) t k l piece b time)
     (first (Verdicts.feedTests closed (length (b .work)) (length (b .reply))))
-    (composed-refused t k l piece b a closed e)
+    (composed-refused t k l piece b time a closed e)
     (λ f.
-    let h = lives t k l piece b a closed e f in
-    composed-feed t k l piece b a closed e f _ _
-    (waiting-feeds t k l w (h .0) (a .1) (a .2) ds piece (a .0) (waiting-known (k .phase) (k .progress) (h .1) w)))
+    let h = lives t k l piece b time a closed e f in
+    composed-feed t k l piece b time a closed e f _ _
+    (waiting-feeds t k l w (h .0) (a .1) (a .2) ds piece time (a .0) (waiting-known (k .phase) (k .progress) (h .1) w)))

@@ -102,12 +102,12 @@ module _ (k : Link) (piece : List ℕ) where
 -- ## The plans
 
 module _ (t : Table) (k : Link) (l : Pending) (a : Attached (whole t k l)) (v : Whole l) (z : k .counts .accepted ≤ Limits.LAST-TICKET)
-    (piece : List ℕ) where
+    (piece : List ℕ) (time : ℕ) where
   abbrev s : Parts
   s = whole t k l
 
   abbrev Fed : ℕ → Progress → Plan → Type 0
-  Fed at p r = Feeds (replyBytes (r .reply)) r t k l at p piece
+  Fed at p r = Feeds (replyBytes (r .reply)) r t k l at p piece time
 
   away : k .phase ≡ Limits.WAITING → ⊥
   away e = omega (arith, a .1)
@@ -135,14 +135,14 @@ module _ (t : Table) (k : Link) (l : Pending) (a : Attached (whole t k l)) (v : 
         let all : take (length piece - at) xs ≡ xs = take-all (length piece - at) xs (rw length-drop (omega arith)) in
         let g : Makes s (messageOf p) xs (messageOf further) (placedAt (p .body) xs) =
         rw (begun, message-headed further (omega arith), ← (length-drop at piece)) (makes-body s (p .header) (p .body) xs) in
-        feeds-data t k l at p piece
+        feeds-data t k l at p piece time
         (hungry-says t k l further (length piece) (a .0) (fits-body (k .phase) further (a .1) f short (omega arith)))
         (λ y. record { size = y .size; fits = y .fits; grows = λ q. absurd (omega arith); read = y .read })
         (p .body) (length piece) (omega arith) (omega arith)
-        (λ b. rw all (part-waits s piece at b need body-calm g m c))
+        (λ b. rw all (part-waits time s piece at b need body-calm g m c))
 
     -- all that is left of it
-    last-feeds : need ≤ length piece - at → Fed at p (withData (p .body) at (at + need) (submittedPlan k (l .count) (p .header) (at + need)))
+    last-feeds : need ≤ length piece - at → Fed at p (withData (p .body) at (at + need) (submittedPlan k (l .count) (p .header) (at + need) time))
     last-feeds c =
         let h = p .header in
         let xs = take need (drop at piece) in
@@ -151,21 +151,21 @@ module _ (t : Table) (k : Link) (l : Pending) (a : Attached (whole t k l)) (v : 
         let e : p .body + length xs ≡ bodyLen h = omega arith in
         let o : at + need - at ≡ need = omega arith in
         let g : Makes s (messageOf p) xs (headed h (bodyLen h)) (placedAt (p .body) xs) = rw begun (rw e at (makes-body s h (p .body) xs)) in
-        feeds-data t k l at p piece
-        (submitted-says t k l h (bodyLen h) (at + need) a v z)
-        (λ _. submitted-padded k (l .count) h (at + need))
+        feeds-data t k l at p piece time
+        (submitted-says t k l h (bodyLen h) (at + need) time a v z)
+        (λ _. submitted-padded k (l .count) h (at + need) time)
         (p .body) (at + need) (omega arith) (omega arith)
         (λ b. rw o
-        (part-says s piece at b need body-calm g (at + need) refl (omega arith) (submitted d h) (omega arith)
-        (at-body d away h (bodyLen h) refl (omega arith) refl) (submit-said d h)))
+        (part-says time s piece at b need body-calm g (at + need) refl (omega arith) (submitted time d h) (omega arith)
+        (at-body time d away h (bodyLen h) refl (omega arith) refl) (submit-said time d h)))
 
-    body-feeds : Fed at p (bodyPlan k (l .count) p at (length piece))
+    body-feeds : Fed at p (bodyPlan k (l .count) p at (length piece) time)
     body-feeds = by (ltb (length piece - at) need) refl
       where
         by : (c : Bool) → ltb (length piece - at) need ≡ c
             → Fed at p
             (cond c (withData (p .body) at (length piece) (hungryPlan k (l .count) further (length piece)))
-            (withData (p .body) at (at + need) (submittedPlan k (l .count) (p .header) (at + need))))
+            (withData (p .body) at (at + need) (submittedPlan k (l .count) (p .header) (at + need) time)))
         by true e = more-feeds (ltb-true _ _ e)
         by false e = last-feeds (ltb-false _ _ e)
 
@@ -178,10 +178,10 @@ module _ (t : Table) (k : Link) (l : Pending) (a : Attached (whole t k l)) (v : 
     -- a part of it
     part-feeds : p .filled + length piece < Codes.HEADER-LEN → Fed 0 p (hungryPlan k (l .count) (grown p piece) (length piece))
     part-feeds h =
-        feeds t k l 0 p piece
+        feeds t k l 0 p piece time
         (hungry-says t k l (grown p piece) (length piece) (a .0) (fits-header (k .phase) (grown p piece) (a .1) h))
         (grown-padded p size piece (omega arith) h)
-        (λ b. part-waits s piece 0 b (missing k piece) (header-calm p size s away (omega arith))
+        (λ b. part-waits time s piece 0 b (missing k piece) (header-calm p size s away (omega arith))
         (grown-makes p size piece (omega arith) s h) (omega arith) (omega arith))
 
     -- all that is missing of it
@@ -207,61 +207,63 @@ module _ (t : Table) (k : Link) (l : Pending) (a : Attached (whole t k l)) (v : 
       made : Makes s (messageOf p) xs (headed (q .header) 0) unplaced
       made = read-makes p size xs (omega (arith, filled)) s (omega (arith, filled)) filled
 
-      judged : judge d ≡ wholeHeader d (q .header)
-      judged = at-48 d away (q .header) refl
+      judged : judge time d ≡ wholeHeader time d (q .header)
+      judged = at-48 time d away (q .header) refl
 
       -- its last byte says something; or the body follows
-      said : (e : Event) → wholeHeader d (q .header) ≡ e → isHungry e ≡ false
-          → (b : Buffers) → fedFrom 0 (during s (messageOf p)) b piece ≡ resultAt d b end e
-      said e j n b = part-says s piece 0 b end (header-calm p size s away h) made end (omega arith) m e (omega arith) (judged ∙ j) n
+      said : (e : Event) → wholeHeader time d (q .header) ≡ e → isHungry e ≡ false
+          → (b : Buffers) → fedFrom time 0 (during s (messageOf p)) b piece ≡ resultAt d b end e
+      said e j n b = part-says time s piece 0 b end (header-calm p size s away h) made end (omega arith) m e (omega arith) (judged ∙ j) n
 
-      follows : wholeHeader d (q .header) ≡ hungry → (b : Buffers) → fedFrom 0 (during s (messageOf p)) b piece ≡ fedFrom end d b (drop end piece)
-      follows j b = part-goes-on s piece 0 b end (header-calm p size s away h) made end (omega arith) m (judged ∙ j)
+      follows : wholeHeader time d (q .header) ≡ hungry
+          → (b : Buffers) → fedFrom time 0 (during s (messageOf p)) b piece ≡ fedFrom time end d b (drop end piece)
+      follows j b = part-goes-on time s piece 0 b end (header-calm p size s away h) made end (omega arith) m (judged ∙ j)
 
       breaks-feeds : (f : Fault) → first (headerTestsOf (q .header) (k .devid) (listOf l)) ≡ some f → Fed 0 p (brokenPlan k (l .count) f end)
       breaks-feeds f e =
-          feeds t k l 0 p piece (broken-says t k l (headed (q .header) 0) f end (a .0) v z) (λ _. broken-padded k (l .count) f end)
-          (said (breaks d f) (header-bad d (q .header) f e) refl)
+          feeds t k l 0 p piece time (broken-says t k l (headed (q .header) 0) f end (a .0) v z) (λ _. broken-padded k (l .count) f end)
+          (said (breaks d f) (header-bad time d (q .header) f e) refl)
 
       module _ (f : first (headerTestsOf (q .header) (k .devid) (listOf l)) ≡ none) where
         unlink-feeds : (q .header .command ≡ Codes.CMD-SUBMIT → ⊥) → Fed 0 p (unlinkedPlan k (l .count) (q .header) look end)
         unlink-feeds n =
             let u = unlinkSeqnum (q .header) in
             rw (unlink-key (q .header) (k .devid) (listOf l) f n)
-            (feeds t k l 0 p piece (unlinked-says t k l (q .header) end a v z)
+            (feeds t k l 0 p piece time (unlinked-says t k l (q .header) end a v z)
             (λ _. unlinked-padded k (l .count) (q .header) (lookBy seqnumOf u (listOf l)) end)
-            (said _ (header-unlink d (q .header) f n) (unlink-said (q .header .transfer .seqnum) (findBy seqnumOf u (listOf l)))))
+            (said _ (header-unlink time d (q .header) f n) (unlink-said (q .header .transfer .seqnum) (findBy seqnumOf u (listOf l)))))
 
-        submit-feeds : q .header .command ≡ Codes.CMD-SUBMIT → Fed 0 p (submitPlan k (l .count) q end (length piece))
+        submit-feeds : q .header .command ≡ Codes.CMD-SUBMIT → Fed 0 p (submitPlan k (l .count) q end (length piece) time)
         submit-feeds e = by (eqb (bodyLen (q .header)) 0) refl
           where
             by : (c : Bool) → eqb (bodyLen (q .header)) 0 ≡ c
-                → Fed 0 p (cond c (submittedPlan k (l .count) (q .header) end) (bodyPlan k (l .count) q end (length piece)))
+                → Fed 0 p (cond c (submittedPlan k (l .count) (q .header) end time) (bodyPlan k (l .count) q end (length piece) time))
             by true o =
-                feeds t k l 0 p piece (submitted-says t k l (q .header) 0 end a v z) (λ _. submitted-padded k (l .count) (q .header) end)
-                (said (submitted d (q .header)) (header-whole d (q .header) f e (eqb-true _ _ o)) (submit-said d (q .header)))
+                feeds t k l 0 p piece time (submitted-says t k l (q .header) 0 end time a v z)
+                (λ _. submitted-padded k (l .count) (q .header) end time)
+                (said (submitted time d (q .header)) (header-whole time d (q .header) f e (eqb-true _ _ o)) (submit-said time d (q .header)))
             by false o =
                 let n : bodyLen (q .header) ≡ 0 → ⊥ = eqb-false _ _ o in
-                feeds-on t k l 0 p piece end q
+                feeds-on t k l 0 p piece time end q
                 (body-feeds end q m refl (omega arith) (short-body (q .header) (k .devid) (listOf l) f e))
                 (λ _. read-padded (q .header) 0)
-                (follows (header-body d (q .header) f e (omega arith)))
+                (follows (header-body time d (q .header) f e (omega arith)))
 
-      header-feeds : Fed 0 p (headerPlan k (l .count) q look end (length piece))
+      header-feeds : Fed 0 p (headerPlan k (l .count) q look end (length piece) time)
       header-feeds =
           let e = ap first (header-tests (q .header) (k .devid) (listOf l)) in
           by-first (Fed 0 p) (first (Verdicts.headerTests (q .header) (k .devid) (look .found)))
           (λ f y. breaks-feeds f (e ∙ y)) (λ y. by (e ∙ y) (eqb (q .header .command) Codes.CMD-SUBMIT) refl)
         where
           by : first (headerTestsOf (q .header) (k .devid) (listOf l)) ≡ none → (c : Bool) → eqb (q .header .command) Codes.CMD-SUBMIT ≡ c
-              → Fed 0 p (cond c (submitPlan k (l .count) q end (length piece)) (unlinkedPlan k (l .count) (q .header) look end))
+              → Fed 0 p (cond c (submitPlan k (l .count) q end (length piece) time) (unlinkedPlan k (l .count) (q .header) look end))
           by f true c = submit-feeds f (eqb-true _ _ c)
           by f false c = unlink-feeds f (eqb-false _ _ c)
 
     -- ### The whole piece
 
     abbrev Planned : Asked → Type 0
-    Planned o = Fed 0 p (attachedPlan k (l .count) o (lookFor (listOf l) (o .key)) (length piece))
+    Planned o = Fed 0 p (attachedPlan k (l .count) o (lookFor (listOf l) (o .key)) (length piece) time)
 
     pub attached-feeds : attachedFits p ≡ true → Planned (askOf k piece)
     attached-feeds f = by (ltb (p .filled) Codes.HEADER-LEN) refl (ltb (length piece) (missing k piece)) refl

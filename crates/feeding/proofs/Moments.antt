@@ -25,12 +25,12 @@ use Rattle.feeding.proofs.Stages.{Calm}
 
 -- ## A request
 
-module _ (s : Sess) (m : List ℕ) (w : s .link .phase ≡ Limits.WAITING) (i : s .link .message ≡ partly m) where
-  wait-8 : length m < Codes.OP-LEN → judge s ≡ hungry
+module _ (time : ℕ) (s : Sess) (m : List ℕ) (w : s .link .phase ≡ Limits.WAITING) (i : s .link .message ≡ partly m) where
+  wait-8 : length m < Codes.OP-LEN → judge time s ≡ hungry
   unfolding judge request pick
   wait-8 h = rw (w, i, lt-ltb (length m) Codes.OP-LEN h)
 
-  wait-40 : Codes.OP-LEN < length m → length m < Codes.OP-LEN + Codes.BUSID-LEN → judge s ≡ hungry
+  wait-40 : Codes.OP-LEN < length m → length m < Codes.OP-LEN + Codes.BUSID-LEN → judge time s ≡ hungry
   unfolding judge request pick
   wait-40 h l =
       rw (
@@ -41,25 +41,25 @@ module _ (s : Sess) (m : List ℕ) (w : s .link .phase ≡ Limits.WAITING) (i : 
         lt-ltb (length m) (Codes.OP-LEN + Codes.BUSID-LEN) l,
       )
 
-  pub at-8 : length m ≡ Codes.OP-LEN → judge s ≡ requested s m
+  pub at-8 : length m ≡ Codes.OP-LEN → judge time s ≡ requested s m
   unfolding judge request pick
   at-8 h = rw (w, i, h)
 
-  pub at-40 : length m ≡ Codes.OP-LEN + Codes.BUSID-LEN → judge s ≡ imports (lookedUp s)
+  pub at-40 : length m ≡ Codes.OP-LEN + Codes.BUSID-LEN → judge time s ≡ imports (lookedUp s)
   unfolding judge request pick
   at-40 h = rw (w, i, h)
 
 -- before the 8th byte, and between it and the 40th
 module _ (s : Sess) (m : List ℕ) (w : s .link .phase ≡ Limits.WAITING) (i : s .link .message ≡ partly m) where
   pub calm-8 : Calm s (Codes.OP-LEN - length m)
-  calm-8 ys h l =
-      ap (λ (t : Sess). isHungry (judge t)) (grow-in m ys s i (omega arith))
-      ∙ ap isHungry (wait-8 (holding s (partly (m ++ ys))) (m ++ ys) w refl (rw length-append (omega arith)))
+  calm-8 time ys h l =
+      ap (λ (t : Sess). isHungry (judge time t)) (grow-in m ys s i (omega arith))
+      ∙ ap isHungry (wait-8 time (holding s (partly (m ++ ys))) (m ++ ys) w refl (rw length-append (omega arith)))
 
   pub calm-40 : Codes.OP-LEN ≤ length m → Calm s (Codes.OP-LEN + Codes.BUSID-LEN - length m)
-  calm-40 k ys h l =
-      ap (λ (t : Sess). isHungry (judge t)) (grow-in m ys s i (omega arith))
-      ∙ ap isHungry (wait-40 (holding s (partly (m ++ ys))) (m ++ ys) w refl (rw length-append (omega arith)) (rw length-append (omega arith)))
+  calm-40 k time ys h l =
+      ap (λ (t : Sess). isHungry (judge time t)) (grow-in m ys s i (omega arith))
+      ∙ ap isHungry (wait-40 time (holding s (partly (m ++ ys))) (m ++ ys) w refl (rw length-append (omega arith)) (rw length-append (omega arith)))
 
 module _ (s : Sess) (m : List ℕ) where
   pub request-bad : (f : Fault) → first (requestTests (requestOf m)) ≡ some f → requested s m ≡ breaks s f
@@ -77,65 +77,65 @@ module _ (s : Sess) (m : List ℕ) where
 
 -- ## A message
 
-module _ (s : Sess) (w : s .link .phase ≡ Limits.WAITING → ⊥) where
-  wait-48 : (m : List ℕ) → s .link .message ≡ partly m → judge s ≡ hungry
+module _ (time : ℕ) (s : Sess) (w : s .link .phase ≡ Limits.WAITING → ⊥) where
+  wait-48 : (m : List ℕ) → s .link .message ≡ partly m → judge time s ≡ hungry
   unfolding judge message pick
   wait-48 m i = rw (ne-eqb (s .link .phase) Limits.WAITING w, i)
 
-  pub at-48 : (h : Header) → s .link .message ≡ headed h 0 → judge s ≡ wholeHeader s h
+  pub at-48 : (h : Header) → s .link .message ≡ headed h 0 → judge time s ≡ wholeHeader time s h
   unfolding judge message pick
   at-48 h i = rw (ne-eqb (s .link .phase) Limits.WAITING w, i)
 
   module _ (h : Header) (n : ℕ) (i : s .link .message ≡ headed h n) (p : 0 < n) where
-    judge-body : judge s ≡ submitting s h n
+    judge-body : judge time s ≡ submitting time s h n
     unfolding judge message pick
     judge-body = rw (ne-eqb (s .link .phase) Limits.WAITING w, i, ne-eqb n 0 (λ e. omega arith))
 
-    wait-body : n < bodyLen h → judge s ≡ hungry
+    wait-body : n < bodyLen h → judge time s ≡ hungry
     unfolding submitting pick
     wait-body l = judge-body ∙ rw (lt-ltb n (bodyLen h) l)
 
-    pub at-body : n ≡ bodyLen h → judge s ≡ submitted s h
+    pub at-body : n ≡ bodyLen h → judge time s ≡ submitted time s h
     unfolding submitting pick
     at-body l = judge-body ∙ rw (le-ltb n (bodyLen h) (omega arith))
 
 -- before the 48th byte, and before the last of a body
 module _ (s : Sess) (w : s .link .phase ≡ Limits.WAITING → ⊥) where
   pub calm-48 : (m : List ℕ) → s .link .message ≡ partly m → Calm s (Codes.HEADER-LEN - length m)
-  calm-48 m i ys h l =
-      ap (λ (t : Sess). isHungry (judge t)) (grow-in m ys s i (omega arith))
-      ∙ ap isHungry (wait-48 (holding s (partly (m ++ ys))) w (m ++ ys) refl)
+  calm-48 m i time ys h l =
+      ap (λ (t : Sess). isHungry (judge time t)) (grow-in m ys s i (omega arith))
+      ∙ ap isHungry (wait-48 time (holding s (partly (m ++ ys))) w (m ++ ys) refl)
 
   pub calm-body : (h : Header) (n : ℕ) → s .link .message ≡ headed h n → Calm s (bodyLen h - n)
-  calm-body h n i ys p l =
-      ap (λ (t : Sess). isHungry (judge t)) (grow-body h n ys s i)
-      ∙ ap isHungry (wait-body (holding s (headed h (n + length ys))) w h (n + length ys) refl (omega arith) (omega arith))
+  calm-body h n i time ys p l =
+      ap (λ (t : Sess). isHungry (judge time t)) (grow-body h n ys s i)
+      ∙ ap isHungry (wait-body time (holding s (headed h (n + length ys))) w h (n + length ys) refl (omega arith) (omega arith))
 
-module _ (s : Sess) (h : Header) where
-  pub header-bad : (f : Fault) → first (headerTestsOf h (s .link .devid) (s .pend)) ≡ some f → wholeHeader s h ≡ breaks s f
+module _ (time : ℕ) (s : Sess) (h : Header) where
+  pub header-bad : (f : Fault) → first (headerTestsOf h (s .link .devid) (s .pend)) ≡ some f → wholeHeader time s h ≡ breaks s f
   unfolding wholeHeader decide
   header-bad f e = rw e
 
   module _ (f : first (headerTestsOf h (s .link .devid) (s .pend)) ≡ none) where
     pub header-unlink : (h .command ≡ Codes.CMD-SUBMIT → ⊥)
-        → wholeHeader s h ≡ unlinks (h .transfer .seqnum) (findBy seqnumOf (unlinkSeqnum h) (s .pend))
+        → wholeHeader time s h ≡ unlinks (h .transfer .seqnum) (findBy seqnumOf (unlinkSeqnum h) (s .pend))
     unfolding wholeHeader decide pick
     header-unlink e = rw (f, ne-eqb (h .command) Codes.CMD-SUBMIT e)
 
     module _ (e : h .command ≡ Codes.CMD-SUBMIT) where
-      header-submit : wholeHeader s h ≡ submitting s h 0
+      header-submit : wholeHeader time s h ≡ submitting time s h 0
       unfolding wholeHeader decide pick
       header-submit = rw (f, eq-eqb (h .command) Codes.CMD-SUBMIT e)
 
-      pub header-whole : bodyLen h ≡ 0 → wholeHeader s h ≡ submitted s h
+      pub header-whole : bodyLen h ≡ 0 → wholeHeader time s h ≡ submitted time s h
       unfolding submitting pick
       header-whole z = header-submit ∙ rw (le-ltb 0 (bodyLen h) (omega arith))
 
-      pub header-body : 0 < bodyLen h → wholeHeader s h ≡ hungry
+      pub header-body : 0 < bodyLen h → wholeHeader time s h ≡ hungry
       unfolding submitting pick
       header-body l = header-submit ∙ rw (lt-ltb 0 (bodyLen h) l)
 
-  pub submit-said : isHungry (submitted s h) ≡ false
+  pub submit-said : isHungry (submitted time s h) ≡ false
   unfolding submitted
   submit-said = by-first (λ e. isHungry e ≡ false) (first (submitTestsOf h s)) (λ _ _. refl) (λ _. refl)
 

@@ -21,21 +21,22 @@ use Rattle.events.proofs.Saying.{resultAt, Says}
 use Rattle.feeding.proofs.Stages.{fedFrom, placedAt}
 
 -- what a plan with this reply makes of the bytes of a piece from a place on, with this message in progress
-pub record Feeds (bytes : List ℕ) (r : Plan) (t : Table) (k : Link) (l : Pending) (at : ℕ) (p : Progress) (piece : List ℕ) : Type 0 where
+pub record Feeds (bytes : List ℕ) (r : Plan) (t : Table) (k : Link) (l : Pending) (at : ℕ) (p : Progress) (piece : List ℕ) (time : ℕ)
+    : Type 0 where
   pub inside : r .to ≤ length piece
   pub room : r .body + (r .to - r .from) ≤ Limits.WORK-LEN
-  pub fed : (b : Buffers) → carriedWith bytes t l r piece b ≡ fedFrom at (during (whole t k l) (messageOf p)) b (drop at piece)
+  pub fed : (b : Buffers) → carriedWith bytes t l r piece b ≡ fedFrom time at (during (whole t k l) (messageOf p)) b (drop at piece)
   pub tidy : Clean l → Padded p → TidyParts (partsAfter t l r)
 
-module _ (t : Table) (k : Link) (l : Pending) (at : ℕ) (p : Progress) (piece : List ℕ) where
+module _ (t : Table) (k : Link) (l : Pending) (at : ℕ) (p : Progress) (piece : List ℕ) (time : ℕ) where
   abbrev pub start : Sess
   start = during (whole t k l) (messageOf p)
 
   module _ {bytes : List ℕ} {r : Plan} where
     module _ {m : Message} {consumed : ℕ} {e : Event} (y : Says bytes r t k l m consumed e) (z : Padded p → Padded (r .link .progress)) where
       -- a plan that copies nothing
-      pub feeds : ((b : Buffers) → fedFrom at start b (drop at piece) ≡ resultAt (during (whole t k l) m) b consumed e)
-          → Feeds bytes r t k l at p piece
+      pub feeds : ((b : Buffers) → fedFrom time at start b (drop at piece) ≡ resultAt (during (whole t k l) m) b consumed e)
+          → Feeds bytes r t k l at p piece time
       feeds h =
           record {
             inside = omega (arith, y .copies .2);
@@ -46,9 +47,9 @@ module _ (t : Table) (k : Link) (l : Pending) (at : ℕ) (p : Progress) (piece :
 
       -- the same plan with data
       pub feeds-data : (body to : ℕ) → to ≤ length piece → body + (to - at) ≤ Limits.WORK-LEN
-          → ((b : Buffers) → fedFrom at start b (drop at piece)
+          → ((b : Buffers) → fedFrom time at start b (drop at piece)
           ≡ resultAt (during (whole t k l) m) (placedAt body (take (to - at) (drop at piece)) b) consumed e)
-          → Feeds bytes (withData body at to r) t k l at p piece
+          → Feeds bytes (withData body at to r) t k l at p piece time
       feeds-data body to i n h =
           record {
             inside = i;
@@ -73,8 +74,8 @@ module _ (t : Table) (k : Link) (l : Pending) (at : ℕ) (p : Progress) (piece :
           }
 
     -- a plan for the rest is a plan for all
-    pub feeds-on : (end : ℕ) (q : Progress) → Feeds bytes r t k l end q piece → (Padded p → Padded q)
-        → ((b : Buffers) → fedFrom at start b (drop at piece) ≡ fedFrom end (during (whole t k l) (messageOf q)) b (drop end piece))
-        → Feeds bytes r t k l at p piece
+    pub feeds-on : (end : ℕ) (q : Progress) → Feeds bytes r t k l end q piece time → (Padded p → Padded q)
+        → ((b : Buffers) → fedFrom time at start b (drop at piece) ≡ fedFrom time end (during (whole t k l) (messageOf q)) b (drop end piece))
+        → Feeds bytes r t k l at p piece time
     feeds-on end q f z h =
         record { inside = f .inside; room = f .room; fed = λ b. f .fed b ∙ sym (h b); tidy = λ c g. f .tidy c (z g) }

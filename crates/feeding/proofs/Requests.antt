@@ -42,12 +42,12 @@ use Rattle.feeding.proofs.Headers.{busid-calm}
 use Rattle.feeding.proofs.Pieces.{Feeds, feeds, feeds-on}
 
 module _ (t : Table) (k : Link) (l : Pending) (w : k .phase ≡ Limits.WAITING) (c : countsFit (k .counts) (l .count) ≡ true) (v : Whole l)
-    (z : k .counts .accepted ≤ Limits.LAST-TICKET) (ds : length (t .devices) ≡ Limits.MAX-DEVICES) (piece : List ℕ) where
+    (z : k .counts .accepted ≤ Limits.LAST-TICKET) (ds : length (t .devices) ≡ Limits.MAX-DEVICES) (piece : List ℕ) (time : ℕ) where
   abbrev s : Parts
   s = whole t k l
 
   abbrev Fed : ℕ → Progress → RequestPlan → Type 0
-  Fed at p r = Feeds (requestBytes t (r .reply)) (r .plan) t k l at p piece
+  Fed at p r = Feeds (requestBytes t (r .reply)) (r .plan) t k l at p piece time
 
   -- all that is left comes before the n-th byte
   wait-feeds : (at : ℕ) (p : Progress) (n : ℕ) → length (p .head) ≡ Codes.HEADER-LEN → at ≤ length piece → p .filled < n
@@ -56,10 +56,10 @@ module _ (t : Table) (k : Link) (l : Pending) (w : k .phase ≡ Limits.WAITING) 
   wait-feeds at p n size m h o calm e =
       let xs = drop at piece in
       let x : length xs ≡ length piece - at = length-drop at piece in
-      feeds t k l at p piece
+      feeds t k l at p piece time
       (hungry-says t k l (grown p xs) (length piece) c (fits-waiting (k .phase) (grown p xs) w (omega arith)))
       (grown-padded p size xs (omega arith) (omega arith))
-      (λ b. part-waits s piece at b (n - p .filled) calm (grown-makes p size xs (omega arith) s (omega arith)) m e)
+      (λ b. part-waits time s piece at b (n - p .filled) calm (grown-makes p size xs (omega arith) s (omega arith)) m e)
 
   -- ## A busid, from a place of the piece on
 
@@ -89,25 +89,25 @@ module _ (t : Table) (k : Link) (l : Pending) (w : k .phase ≡ Limits.WAITING) 
       unfolding lookedUp
       found = rw (named-in, busid-front p size busid (omega (arith, named-filled)) (omega (arith, named-filled)))
 
-      judge-40 : judge naming ≡ imports (findIn t (busidOf (named .head)))
+      judge-40 : judge time naming ≡ imports (findIn t (busidOf (named .head)))
       judge-40 =
-          at-40 naming (came p ++ busid) w named-in (grown-length p size busid (omega (arith, named-filled)) ∙ named-filled) ∙ ap imports found
+          at-40 time naming (came p ++ busid) w named-in (grown-length p size busid (omega (arith, named-filled)) ∙ named-filled) ∙ ap imports found
 
-      named-says : (x : Event) → judge naming ≡ x → isHungry x ≡ false
-          → (b : Buffers) → fedFrom at (during s (messageOf p)) b (drop at piece) ≡ resultAt naming b (at + need) x
+      named-says : (x : Event) → judge time naming ≡ x → isHungry x ≡ false
+          → (b : Buffers) → fedFrom time at (during s (messageOf p)) b (drop at piece) ≡ resultAt naming b (at + need) x
       named-says x j y b =
-          part-says s piece at b need (busid-calm p size s w h o) (grown-makes p size busid (omega (arith, named-filled)) s (omega (arith, named-filled)))
+          part-says time s piece at b need (busid-calm p size s w h o) (grown-makes p size busid (omega (arith, named-filled)) s (omega (arith, named-filled)))
           (at + need) refl (omega arith) x (omega arith) j y
 
       lookup-feeds : Fed at p (lookupPlan t k (l .count) (named .head) (at + need))
       lookup-feeds = by (findIn t (busidOf (named .head))) found judge-40
         where
-          by : (f : Found) → lookedUp naming ≡ f → judge naming ≡ imports f → Fed at p (importedPlan t k (l .count) f (at + need))
+          by : (f : Found) → lookedUp naming ≡ f → judge time naming ≡ imports f → Fed at p (importedPlan t k (l .count) f (at + need))
           by (At i) g j =
-              feeds t k l at p piece (import-says t k l (messageOf named) i (at + need) c g ds)
+              feeds t k l at p piece time (import-says t k l (messageOf named) i (at + need) c g ds)
               (λ _. import-padded k (l .count) i (devidIn t i) (at + need)) (named-says (import 0) j refl)
           by Nothing g j =
-              feeds t k l at p piece (unknown-says t k l (messageOf named) (at + need) c g)
+              feeds t k l at p piece time (unknown-says t k l (messageOf named) (at + need) c g)
               (λ _. unknown-padded k (l .count) (at + need)) (named-says (import 1) j refl)
 
     busid-feeds : Fed at p (busidPlan t k (l .count) p piece at)
@@ -167,30 +167,30 @@ module _ (t : Table) (k : Link) (l : Pending) (w : k .phase ≡ Limits.WAITING) 
       code-read : requestOf (came p ++ xs) .code ≡ request .code
       code-read = ap (λ (r : Request). r .code) read
 
-      judge-8 : judge d ≡ requested d (came p ++ xs)
-      judge-8 = at-8 d (came p ++ xs) w (message-grown p size xs fit (omega (arith, filled))) (grown-length p size xs fit ∙ filled)
+      judge-8 : judge time d ≡ requested d (came p ++ xs)
+      judge-8 = at-8 time d (came p ++ xs) w (message-grown p size xs fit (omega (arith, filled))) (grown-length p size xs fit ∙ filled)
 
       said : (x : Event) → requested d (came p ++ xs) ≡ x → isHungry x ≡ false
-          → (b : Buffers) → fedFrom 0 (during s (messageOf p)) b piece ≡ resultAt d b end x
-      said x j y b = part-says s piece 0 b end (request-calm p size s w h) made end (omega arith) m x (omega arith) (judge-8 ∙ j) y
+          → (b : Buffers) → fedFrom time 0 (during s (messageOf p)) b piece ≡ resultAt d b end x
+      said x j y b = part-says time s piece 0 b end (request-calm p size s w h) made end (omega arith) m x (omega arith) (judge-8 ∙ j) y
 
-      follows : requested d (came p ++ xs) ≡ hungry → (b : Buffers) → fedFrom 0 (during s (messageOf p)) b piece ≡ fedFrom end d b (drop end piece)
-      follows j b = part-goes-on s piece 0 b end (request-calm p size s w h) made end (omega arith) m (judge-8 ∙ j)
+      follows : requested d (came p ++ xs) ≡ hungry → (b : Buffers) → fedFrom time 0 (during s (messageOf p)) b piece ≡ fedFrom time end d b (drop end piece)
+      follows j b = part-goes-on time s piece 0 b end (request-calm p size s w h) made end (omega arith) m (judge-8 ∙ j)
 
       breaks-feeds : (f : Fault) → first (requestTests request) ≡ some f → Fed 0 p (silentPlan (brokenPlan k (l .count) f end))
       breaks-feeds f e =
-          feeds t k l 0 p piece (broken-says t k l (messageOf q) f end c v z) (λ _. broken-padded k (l .count) f end)
+          feeds t k l 0 p piece time (broken-says t k l (messageOf q) f end c v z) (λ _. broken-padded k (l .count) f end)
           (said (breaks d f) (request-bad d (came p ++ xs) f (tests-read ∙ e)) refl)
 
       module _ (f : first (requestTests request) ≡ none) where
         list-feeds : request .code ≡ Codes.OP-REQ-DEVLIST → Fed 0 p (listPlan k (l .count) end)
         list-feeds e =
-            feeds t k l 0 p piece (list-says t k l (messageOf q) end c) (λ _. list-padded k (l .count) end)
+            feeds t k l 0 p piece time (list-says t k l (messageOf q) end c) (λ _. list-padded k (l .count) end)
             (said list (request-list d (came p ++ xs) (tests-read ∙ f) (code-read ∙ e)) refl)
 
         import-feeds : (request .code ≡ Codes.OP-REQ-DEVLIST → ⊥) → Fed 0 p (busidPlan t k (l .count) q piece end)
         import-feeds e =
-            feeds-on t k l 0 p piece end q
+            feeds-on t k l 0 p piece time end q
             (busid-feeds end q (grown-size p size xs fit) m (omega (arith, filled)) (omega (arith, filled)))
             (grown-padded p size xs fit (omega (arith, filled)))
             (follows (request-import d (came p ++ xs) (tests-read ∙ f) (λ x. e (sym code-read ∙ x))))

@@ -35,17 +35,17 @@ resultOf s piece r =
       next = r .next;
     }
 
-unfoldable pub fedOf : Sess → Buffers → List ℕ → Result
-fedOf s b piece = resultOf s piece (feedOf s b piece)
+unfoldable pub fedOf : Sess → Buffers → List ℕ → (time : ℕ) → Result
+fedOf s b piece time = resultOf s piece (feedOf s b piece time)
 
 -- What a plan for a piece is to its session, with these bytes as its reply: its data lies in the piece and fits the work buffer, its
 -- reply fits the reply buffer; carried out it is the feed of the definitions; a refusal leaves the very link and list; what it leaves is
 -- tidy.
-pub record Composed (r : Plan) (bytes : List ℕ) (t : Table) (k : Link) (l : Pending) (piece : List ℕ) (b : Buffers) : Type 0 where
+pub record Composed (r : Plan) (bytes : List ℕ) (t : Table) (k : Link) (l : Pending) (piece : List ℕ) (b : Buffers) (time : ℕ) : Type 0 where
   pub inside : r .to ≤ length piece
   pub fits : r .body + (r .to - r .from) ≤ length (b .work)
   pub takes : length bytes ≤ Limits.REPLY-LEN → length bytes ≤ length (b .reply)
-  pub fed : carriedWith bytes t l r piece b ≡ fedOf (viewOfParts (whole t k l)) b piece
+  pub fed : carriedWith bytes t l r piece b ≡ fedOf (viewOfParts (whole t k l)) b piece time
   pub same : (n : ℕ) → r .event ≡ Refused n → (r .link ≡ k) × (r .change ≡ keeps (l .count))
   pub tidy : TidyParts (whole t k l) → TidyParts (partsAfter t l r)
 
@@ -54,20 +54,20 @@ abbrev pub Arrays : Link → Pending → Type 0
 Arrays k l = (length (k .progress .head) ≡ Codes.HEADER-LEN) × Whole l × (k .counts .accepted ≤ Limits.LAST-TICKET)
 
 -- What a piece asks is looked up once in the pending list, and planned from values.
-abbrev pub feedPlan : Link → Pending → (piece : List ℕ) → (work reply : ℕ) → Plan
-feedPlan k l piece work reply =
+abbrev pub feedPlan : Link → Pending → (piece : List ℕ) → (work reply time : ℕ) → Plan
+feedPlan k l piece work reply time =
     let a = askOf k piece in
-    messagePlan k (l .count) a (lookFor (listOf l) (a .key)) (length piece) work reply
+    messagePlan k (l .count) a (lookFor (listOf l) (a .key)) (length piece) work reply time
 
 -- The feed of a message.
 abbrev pub MessageComposed : Type 0
-MessageComposed = (t : Table) (k : Link) (l : Pending) (piece : List ℕ) (b : Buffers) → Arrays k l → (k .phase ≡ Limits.WAITING → ⊥)
-    → let r = feedPlan k l piece (length (b .work)) (length (b .reply)) in
-    Composed r (replyBytes (r .reply)) t k l piece b
+MessageComposed = (t : Table) (k : Link) (l : Pending) (piece : List ℕ) (b : Buffers) (time : ℕ) → Arrays k l → (k .phase ≡ Limits.WAITING → ⊥)
+    → let r = feedPlan k l piece (length (b .work)) (length (b .reply)) time in
+    Composed r (replyBytes (r .reply)) t k l piece b time
 
--- A request. (The table's array has its length, too.)
+-- A request, with which no time matters. (The table's array has its length, too.)
 abbrev pub RequestComposed : Type 0
-RequestComposed = (t : Table) (k : Link) (l : Pending) (piece : List ℕ) (b : Buffers) → Arrays k l → length (t .devices) ≡ Limits.MAX-DEVICES
+RequestComposed = (t : Table) (k : Link) (l : Pending) (piece : List ℕ) (b : Buffers) (time : ℕ) → Arrays k l → length (t .devices) ≡ Limits.MAX-DEVICES
     → k .phase ≡ Limits.WAITING
     → let r = requestPlan t k (l .count) piece (length (b .work)) (length (b .reply)) in
-    Composed (r .plan) (requestBytes t (r .reply)) t k l piece b
+    Composed (r .plan) (requestBytes t (r .reply)) t k l piece b time

@@ -23,36 +23,37 @@ use Rattle.events.specs.declared.plan.RequestPlan.{RequestPlan}
 use Rattle.feeding.specs.Asking.{grown}
 use Rattle.feeding.specs.declared.ask.Asked.{Asked}
 
--- k: the link before; n: how many are pending; p: the message in progress; at: the place of the piece; len: its length.
+-- k: the link before; n: how many are pending; p: the message in progress; at: the place of the piece; len: its length; time: what was given
+-- with it.
 
 -- ## A message
 
 -- A submit's data goes to the work buffer at its own position.
-abbrev pub bodyPlan : Link → ℕ → Progress → (at len : ℕ) → Plan
-bodyPlan k n p at len =
+abbrev pub bodyPlan : Link → ℕ → Progress → (at len time : ℕ) → Plan
+bodyPlan k n p at len time =
     let need = bodyLen (p .header) - p .body in
     let left = len - at in
     let further : Progress = record { head = p .head; filled = p .filled; header = p .header; body = p .body + left } in
     cond (ltb left need) (withData (p .body) at len (hungryPlan k n further len))
-    (withData (p .body) at (at + need) (submittedPlan k n (p .header) (at + need)))
+    (withData (p .body) at (at + need) (submittedPlan k n (p .header) (at + need) time))
 
-abbrev pub submitPlan : Link → ℕ → Progress → (at len : ℕ) → Plan
-submitPlan k n p at len = cond (eqb (bodyLen (p .header)) 0) (submittedPlan k n (p .header) at) (bodyPlan k n p at len)
+abbrev pub submitPlan : Link → ℕ → Progress → (at len time : ℕ) → Plan
+submitPlan k n p at len time = cond (eqb (bodyLen (p .header)) 0) (submittedPlan k n (p .header) at time) (bodyPlan k n p at len time)
 
 -- A header that was just read, by what was looked up for it.
-abbrev pub headerPlan : Link → ℕ → Progress → Look → (at len : ℕ) → Plan
-headerPlan k n p look at len =
+abbrev pub headerPlan : Link → ℕ → Progress → Look → (at len time : ℕ) → Plan
+headerPlan k n p look at len time =
     decide (first (headerTests (p .header) (k .devid) (look .found))) (λ f. brokenPlan k n f at)
-    (cond (eqb (p .header .command) Codes.CMD-SUBMIT) (submitPlan k n p at len) (unlinkedPlan k n (p .header) look at))
+    (cond (eqb (p .header .command) Codes.CMD-SUBMIT) (submitPlan k n p at len time) (unlinkedPlan k n (p .header) look at))
 
-abbrev pub attachedPlan : Link → ℕ → Asked → Look → (len : ℕ) → Plan
-attachedPlan k n a look len =
+abbrev pub attachedPlan : Link → ℕ → Asked → Look → (len time : ℕ) → Plan
+attachedPlan k n a look len time =
     cond (ltb (a .progress .filled) Codes.HEADER-LEN) (hungryPlan k n (a .progress) (a .consumed))
-    (cond (a .read) (headerPlan k n (a .progress) look (a .consumed) len) (bodyPlan k n (a .progress) 0 len))
+    (cond (a .read) (headerPlan k n (a .progress) look (a .consumed) len time) (bodyPlan k n (a .progress) 0 len time))
 
-unfoldable pub messagePlan : Link → ℕ → Asked → Look → (len work reply : ℕ) → Plan
-messagePlan k n a look len work reply =
-    decide (first (feedTests (not (eqb (phaseOf k n) Limits.ATTACHED)) work reply)) (refusedPlan k n) (attachedPlan k n a look len)
+unfoldable pub messagePlan : Link → ℕ → Asked → Look → (len work reply time : ℕ) → Plan
+messagePlan k n a look len work reply time =
+    decide (first (feedTests (not (eqb (phaseOf k n) Limits.ATTACHED)) work reply)) (refusedPlan k n) (attachedPlan k n a look len time)
 
 -- ## A request
 

@@ -34,8 +34,8 @@ fn rest(len: usize, at: usize) -> usize
 }
 
 // A submit's data, from a place of the piece on: it goes to the work buffer at its own position.
-fn plan_body(link: Link, pending: usize, p: Progress, at: usize, len: usize) -> Plan
-    ensures { λ r. ⌜ r ≡ bodyPlan link pending p at len ⌝ }
+fn plan_body(link: Link, pending: usize, p: Progress, at: usize, len: usize, time: u32) -> Plan
+    ensures { λ r. ⌜ r ≡ bodyPlan link pending p at len time ⌝ }
 {
     let h = p.header;
     let body = p.body;
@@ -55,7 +55,7 @@ fn plan_body(link: Link, pending: usize, p: Progress, at: usize, len: usize) -> 
         };
     }
     let end = at + need;
-    let judged = plan_submitted(link, pending, h, end);
+    let judged = plan_submitted(link, pending, h, end, time);
     Plan {
         body: body,
         from: at,
@@ -65,19 +65,27 @@ fn plan_body(link: Link, pending: usize, p: Progress, at: usize, len: usize) -> 
 }
 
 // A submit whose header passed: it ends there, or its data follows.
-fn plan_submit(link: Link, pending: usize, p: Progress, at: usize, len: usize) -> Plan
-    ensures { λ r. ⌜ r ≡ submitPlan link pending p at len ⌝ }
+fn plan_submit(link: Link, pending: usize, p: Progress, at: usize, len: usize, time: u32) -> Plan
+    ensures { λ r. ⌜ r ≡ submitPlan link pending p at len time ⌝ }
 {
     let h = p.header;
     if body_len(h) == 0 {
-        return plan_submitted(link, pending, h, at);
+        return plan_submitted(link, pending, h, at, time);
     }
-    plan_body(link, pending, p, at, len)
+    plan_body(link, pending, p, at, len, time)
 }
 
 // A header that was just read, by what was looked up for it.
-fn plan_header(link: Link, pending: usize, p: Progress, look: Look, at: usize, len: usize) -> Plan
-    ensures { λ r. ⌜ r ≡ headerPlan link pending p look at len ⌝ }
+fn plan_header(
+    link: Link,
+    pending: usize,
+    p: Progress,
+    look: Look,
+    at: usize,
+    len: usize,
+    time: u32,
+) -> Plan
+    ensures { λ r. ⌜ r ≡ headerPlan link pending p look at len time ⌝ }
 {
     let h = p.header;
     let reading = header_fault(h, link.devid, look.found);
@@ -85,7 +93,7 @@ fn plan_header(link: Link, pending: usize, p: Progress, look: Look, at: usize, l
         Reading::Faulty(fault) => plan_broken(link, pending, fault, at),
         Reading::Sound => {
             if h.command == CMD_SUBMIT {
-                return plan_submit(link, pending, p, at, len);
+                return plan_submit(link, pending, p, at, len, time);
             }
             plan_unlinked(link, pending, h, look, at)
         }
@@ -93,21 +101,28 @@ fn plan_header(link: Link, pending: usize, p: Progress, look: Look, at: usize, l
 }
 
 // The bytes of a session that is attached.
-fn plan_attached(link: Link, pending: usize, asked: Asked, look: Look, len: usize) -> Plan
-    ensures { λ r. ⌜ r ≡ attachedPlan link pending asked look len ⌝ }
+fn plan_attached(
+    link: Link,
+    pending: usize,
+    asked: Asked,
+    look: Look,
+    len: usize,
+    time: u32,
+) -> Plan
+    ensures { λ r. ⌜ r ≡ attachedPlan link pending asked look len time ⌝ }
 {
     let p = asked.progress;
     if p.filled < HEADER_LEN {
         return plan_hungry(link, pending, p, asked.consumed);
     }
     if asked.read {
-        return plan_header(link, pending, p, look, asked.consumed, len);
+        return plan_header(link, pending, p, look, asked.consumed, len, time);
     }
-    plan_body(link, pending, p, 0, len)
+    plan_body(link, pending, p, 0, len, time)
 }
 
-// The plan for a piece of so many bytes, with so many URBs pending and buffers of these lengths, by what the piece asked and what
-// was looked up. (It needs neither the table nor the list.)
+// The plan for a piece of so many bytes, with so many URBs pending and buffers of these lengths, by what the piece asked, what was looked
+// up and the time that was given. (It needs neither the table nor the list.)
 pub fn plan_piece(
     link: Link,
     pending: usize,
@@ -116,14 +131,15 @@ pub fn plan_piece(
     len: usize,
     work: usize,
     reply: usize,
+    time: u32,
 ) -> Plan
-    ensures { λ r. ⌜ r ≡ messagePlan link pending asked look len work reply ⌝ }
+    ensures { λ r. ⌜ r ≡ messagePlan link pending asked look len work reply time ⌝ }
 {
     let phase = phase_of(link, pending);
     let closed = phase != ATTACHED;
     let admission = feed_refusal(closed, work, reply);
     match admission {
         Admission::Refused(number) => plan_refused(link, pending, number),
-        Admission::Admitted => plan_attached(link, pending, asked, look, len),
+        Admission::Admitted => plan_attached(link, pending, asked, look, len, time),
     }
 }

@@ -1,4 +1,4 @@
--- Every limit, phase and number of the rules (PROTOCOL.md, 3.5 and 5), each named once. The constants of src/lib.rt have the same names, with `_` for `-`.
+-- Every limit, phase and number of the rules (PROTOCOL.md, 3.6 and 5), each named once. The constants of src/lib.rt have the same names, with `_` for `-`.
 use Prim.Native.Nat.{ℕ, _-_, _^_}
 
 -- ## The export table ("Open")

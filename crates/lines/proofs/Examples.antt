@@ -19,6 +19,7 @@ urb =
       ticket = 1;
       transfer = record { seqnum = 3333; direction = 1; ep = 1; flags = 512; length = 64; start = 0xffffffff; packets = 0; interval = 4 };
       setup = replicate Codes.SETUP-LEN 0;
+      arrival = 0;
     }
 
 pub example :

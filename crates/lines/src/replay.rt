@@ -131,7 +131,7 @@ fn event_text(event: Event, dropped: Tickets) -> Text
         Event::Hungry => empty(),
         Event::List => word_line(b"list"),
         Event::Import(status) => number_line(b"import", status as u64),
-        Event::Submit(ticket, u) => submit_line(ticket, u.seqnum),
+        Event::Submit(ticket, _, u) => submit_line(ticket, u.seqnum),
         Event::Answer(seqnum, status) => status_line(b"answer", seqnum, status),
         Event::Unlink(seqnum, status, _) => status_line(b"unlink", seqnum, status),
         Event::Break(fault) => {

@@ -65,7 +65,7 @@ last-right cs c s b h = let l = holds-after cs (c ∷ []) s b h in (l .0, l .1)
 held : (t : Table) (cs ds : List Call) → Holds (sessionFrom t cs) (bookFrom t cs) ds
 held t cs ds = holds-after cs ds (openOf t .next) (opened (openOf t .good)) (every-run t (cs ++ ds))
 
-right-from : (t : Table) (cs : List Call) (c : Call) → Agrees (sessionFrom t cs) (bookFrom t cs) × Right (sessionFrom t cs) (bookFrom t cs) c
+pub right-from : (t : Table) (cs : List Call) (c : Call) → Agrees (sessionFrom t cs) (bookFrom t cs) × Right (sessionFrom t cs) (bookFrom t cs) c
 right-from t cs c = last-right cs c (openOf t .next) (opened (openOf t .good)) (every-run t (cs ++ (c ∷ [])))
 
 -- the items only grow
@@ -100,7 +100,7 @@ module _ {A : Type 0} where
   refused-or (refused n) = inl (n, refl)
   refused-or (done a) = inr (a, refl)
 
-  table-iff : (rs : List (Row ℕ)) (o : Outcome A) → ((n : ℕ) → o ≡ refused n → Gives rs n) → ((a : A) → o ≡ done a → Clear rs) → ByTable rs o
+  pub table-iff : (rs : List (Row ℕ)) (o : Outcome A) → ((n : ℕ) → o ≡ refused n → Gives rs n) → ((a : A) → o ≡ done a → Clear rs) → ByTable rs o
   table-iff rs o f g = (
     (λ n. (
       f n,
@@ -114,9 +114,9 @@ pub refused-iff : RefusedIff
 refused-iff t cs =
     let s = sessionFrom t cs in
     let b = bookFrom t cs in (
-      (λ p lent.
-          let r = right-from t cs (feed p lent) .1 in
-          table-iff (feedRowsBy b lent) (feedOf s lent p .event) (λ n h. r .refuses n h .0) (λ e h. r .right e h .0)),
+      (λ p lent time.
+          let r = right-from t cs (feed p lent time) .1 in
+          table-iff (feedRowsBy b lent) (feedOf s lent p time .event) (λ n h. r .refuses n h .0) (λ e h. r .right e h .0)),
       (λ c.
           let r = right-from t cs (complete c) .1 in
           table-iff (completionRowsBy b c) (completeOf s c .answer) (λ n h. r .refuses n h .0) (λ w h. r .accepts w h .0)),
@@ -248,32 +248,32 @@ ended-ticket t cs k d =
     )
 
 -- an unlink that names a ticket ends that ticket's item
-unlinked-ends : (s : Sess) (b : Book) (p : List ℕ) (lent : Buffers) (q st k : ℕ) → Holds s b (feed p lent ∷ [])
-    → feedOf s lent p .event ≡ done (unlink q st (some k)) → Ended (keep b (entryOf s (feed p lent)) .items) k
-unlinked-ends s b p lent q st k h e =
-    let js = keep b (entryOf s (feed p lent)) .items in
-    let m = subst (λ (o : Outcome Event). Moves (b .items) (fed p o (feedOf s lent p .consumed)) js) e (h .3) in
+unlinked-ends : (s : Sess) (b : Book) (p : List ℕ) (lent : Buffers) (time q st k : ℕ) → Holds s b (feed p lent time ∷ [])
+    → feedOf s lent p time .event ≡ done (unlink q st (some k)) → Ended (keep b (entryOf s (feed p lent time)) .items) k
+unlinked-ends s b p lent time q st k h e =
+    let js = keep b (entryOf s (feed p lent time)) .items in
+    let m = subst (λ (o : Outcome Event). Moves (b .items) (fed p o (feedOf s lent p time .consumed)) js) e (h .3) in
     let w = m .was in
     (w .0, unlinked, m .ends (w .0) (w .1) (w .2), w .2)
 
 pub cancelled-ticket : CancelledTicket
-cancelled-ticket t cs later p lent q st c h =
-    let one = feed p lent ∷ [] in
+cancelled-ticket t cs later p lent time q st c h =
+    let one = feed p lent time ∷ [] in
     let now = cs ++ one in
-    let ends = unlinked-ends (sessionFrom t cs) (bookFrom t cs) p lent q st (c .ticket) (held t cs one) h in
+    let ends = unlinked-ends (sessionFrom t cs) (bookFrom t cs) p lent time q st (c .ticket) (held t cs one) h in
     let d : Ended (bookFrom t now .items) (c .ticket) = rw (book-append cs one (openOf t .next) (opened (openOf t .good))) ends in
     let n = ended-ticket t (now ++ later) (c .ticket) (ended-ticket t now (c .ticket) d .1 later) .0 in
-    subst (λ (calls : List Call). RefusedLate (sessionFrom t calls) (bookFrom t calls) c) (append-snoc cs (feed p lent) later)
+    subst (λ (calls : List Call). RefusedLate (sessionFrom t calls) (bookFrom t calls) c) (append-snoc cs (feed p lent time) later)
     (late-ticket t (now ++ later) c n)
 
 -- ## What a feed consumes
 
 -- no more than there is
-pub consumed-most : (s : Sess) (lent : Buffers) (p : List ℕ) → feedOf s lent p .consumed ≤ length p
+pub consumed-most : (s : Sess) (lent : Buffers) (p : List ℕ) (time : ℕ) → feedOf s lent p time .consumed ≤ length p
 unfolding feedOf
-consumed-most s lent p =
+consumed-most s lent p time =
     by-first (λ (r : Feeding). r .consumed ≤ length p) (first (feedTestsOf s lent)) (λ n h. omega arith)
-    (λ h. Cutting.consumed-most grow put judge after writeReply hungry isHungry p lent s)
+    (λ h. Cutting.consumed-most grow put (judge time) after writeReply hungry isHungry p lent s)
 
 -- sizes, by the code or the command
 import-size : (x : List ℕ) → requestOf (header x) .code ≡ Codes.OP-REQ-IMPORT → requestSize x ≡ Codes.OP-LEN + Codes.BUSID-LEN
@@ -353,8 +353,9 @@ module _ (q p : List ℕ) (k : ℕ) (l : k ≤ length p) where
       let e = header-read (omega (arith, h)) in
       up-to (messageLen (header read)) _ h (submit-size (q ++ p) (ap (λ m. headerOf m .command) e ∙ c) ∙ ap messageLen e)
 
-  message-reaches : (devid : ℕ) (is : List Item) (e : Event) → (e ≡ hungry → k ≡ length p) → RightMessage devid is read e → MessageReaches q p (done e) k
-  message-reaches devid is hungry a r =
+  message-reaches : (devid time : ℕ) (is : List Item) (e : Event) → (e ≡ hungry → k ≡ length p) → RightMessage devid time is read e
+      → MessageReaches q p (done e) k
+  message-reaches devid time is hungry a r =
       let c = eqb (headerOf (header (q ++ p)) .command) Codes.CMD-SUBMIT in
       let low = at-least c Codes.HEADER-LEN (messageLen (header (q ++ p))) Codes.HEADER-LEN (omega arith) (omega arith) in
       let e = a refl in (
@@ -364,42 +365,42 @@ module _ (q p : List ℕ) (k : ℕ) (l : k ≤ length p) where
             omega (arith, count, h .3, submit-size (q ++ p) (ap (λ m. headerOf m .command) f ∙ h .2), ap messageLen f)) r,
         e,
       )
-  message-reaches devid is list a r = absurd r
-  message-reaches devid is (import st) a r = absurd r
-  message-reaches devid is (submit u) a r = whole-read (r .0) (r .2)
-  message-reaches devid is (answer n st) a r = whole-read (r .0) (r .2)
-  message-reaches devid is (unlink n st o) a r =
+  message-reaches devid time is list a r = absurd r
+  message-reaches devid time is (import st) a r = absurd r
+  message-reaches devid time is (submit u) a r = whole-read (r .0) (r .2)
+  message-reaches devid time is (answer n st) a r = whole-read (r .0) (r .2)
+  message-reaches devid time is (unlink n st o) a r =
       let e = header-read (omega (arith, r .0)) in
       up-to Codes.HEADER-LEN _ (r .0) (unlink-size (q ++ p) (ap (λ m. headerOf m .command) e ∙ r .2))
-  message-reaches devid is (break f ts) a r = up-to Codes.HEADER-LEN _ (r .0) refl
+  message-reaches devid time is (break f ts) a r = up-to Codes.HEADER-LEN _ (r .0) refl
 
-  done-reaches : (c : Bool) (t : Table) (devid : ℕ) (is : List Item) (e : Event) → (e ≡ hungry → k ≡ length p)
-      → byPhase c (RightRequest t is read e) (RightMessage devid is read e) → byPhase c (RequestReaches q p (done e) k) (MessageReaches q p (done e) k)
-  done-reaches true t devid is e a r = request-reaches t is e a r
-  done-reaches false t devid is e a r = message-reaches devid is e a r
+  done-reaches : (c : Bool) (t : Table) (devid time : ℕ) (is : List Item) (e : Event) → (e ≡ hungry → k ≡ length p)
+      → byPhase c (RightRequest t is read e) (RightMessage devid time is read e) → byPhase c (RequestReaches q p (done e) k) (MessageReaches q p (done e) k)
+  done-reaches true t devid time is e a r = request-reaches t is e a r
+  done-reaches false t devid time is e a r = message-reaches devid time is e a r
 
 refused-reaches : (c : Bool) (q p : List ℕ) (n k : ℕ) → k ≡ 0 → byPhase c (RequestReaches q p (refused n) k) (MessageReaches q p (refused n) k)
 refused-reaches true q p n k h = h
 refused-reaches false q p n k h = h
 
-reaches : (s : Sess) (b : Book) (lent : Buffers) (p : List ℕ) → RightFeed s b p lent
-    → let r = feedOf s lent p in
+reaches : (s : Sess) (b : Book) (lent : Buffers) (p : List ℕ) (time : ℕ) → RightFeed s b p lent time
+    → let r = feedOf s lent p time in
     byPhase (eqb (s .link .phase) Limits.WAITING) (RequestReaches (b .part) p (r .event) (r .consumed)) (MessageReaches (b .part) p (r .event) (r .consumed))
-reaches s b lent p r =
-    let k = feedOf s lent p .consumed in
+reaches s b lent p time r =
+    let k = feedOf s lent p time .consumed in
     let c = eqb (s .link .phase) Limits.WAITING in
     ⊎-elim (λ h. rw (h .1) (refused-reaches c (b .part) p (h .0) k (r .refuses (h .0) (h .1) .1)))
     (λ h.
     let all : h .0 ≡ hungry → k ≡ length p = λ e. r .all (h .1 ∙ ap done e) in
-    rw (h .1) (done-reaches (b .part) p k (consumed-most s lent p) c (s .table) (s .link .devid) (b .items) (h .0) all (r .right (h .0) (h .1) .1)))
-    (refused-or (feedOf s lent p .event))
+    rw (h .1) (done-reaches (b .part) p k (consumed-most s lent p time) c (s .table) (s .link .devid) time (b .items) (h .0) all (r .right (h .0) (h .1) .1)))
+    (refused-or (feedOf s lent p time .event))
 
 pub consumption : Consumption
-consumption t cs lent p = reaches (sessionFrom t cs) (bookFrom t cs) lent p (right-from t cs (feed p lent) .1)
+consumption t cs lent p time = reaches (sessionFrom t cs) (bookFrom t cs) lent p time (right-from t cs (feed p lent time) .1)
 
 pub empty-piece : EmptyPiece
 unfolding feedOf Rattle.model.specs.Machine.feed
-empty-piece t cs lent =
+empty-piece t cs lent time =
     let s = sessionFrom t cs in
     let b = bookFrom t cs in
     let m = feed-match s b lent (right-from t cs close .0 .closes) in
@@ -470,15 +471,15 @@ attached-to t cs h =
 
 -- ## A submit
 
-module _ (devid : ℕ) (is : List Item) (m : List ℕ) where
+module _ (devid time : ℕ) (is : List Item) (m : List ℕ) where
   abbrev faults : List (Row Fault)
   faults = headerRowsBy devid is (header m)
 
   abbrev statuses : List (Row ℕ)
   statuses = submitRowsBy devid is (header m)
 
-  accepts : (u : Urb) (k : ℕ) → k ≡ length m → Clear faults → Clear statuses → u ≡ urbOf (suc (length is)) (headerOf (header m))
-      → Verdict devid is m (done (submit u)) k
+  accepts : (u : Urb) (k : ℕ) → k ≡ length m → Clear faults → Clear statuses → u ≡ urbOf (suc (length is)) time (headerOf (header m))
+      → Verdict devid time is m (done (submit u)) k
   accepts u k l y z e =
       record {
         accepted = λ w. ((λ h. (y, z, cc)), λ h. cc (h .2));
@@ -488,7 +489,7 @@ module _ (devid : ℕ) (is : List Item) (m : List ℕ) where
       }
 
   answers : (q st k : ℕ) → k ≡ length m → Clear faults → Gives statuses st → q ≡ headerOf (header m) .transfer .seqnum
-      → Verdict devid is m (done (answer q st)) k
+      → Verdict devid time is m (done (answer q st)) k
   answers q st k l y g e =
       record {
         accepted = λ w. ((λ h. differ (cc)), λ h. not-clear statuses st (h .1) g);
@@ -498,7 +499,7 @@ module _ (devid : ℕ) (is : List Item) (m : List ℕ) where
       }
 
   breaks : (f : Fault) (ts : List ℕ) (k : ℕ) → k ≡ Codes.HEADER-LEN → Gives faults f → ts ≡ tickets (pendingOf is)
-      → Verdict devid is m (done (break f ts)) k
+      → Verdict devid time is m (done (break f ts)) k
   breaks f ts k l g e =
       record {
         accepted = λ w. ((λ h. differ (cc)), λ h. not-clear faults f (h .0) g);
@@ -515,7 +516,7 @@ module _ (m rest : List ℕ) (long : Codes.HEADER-LEN ≤ length m) where
   taken-same : (k : ℕ) → Codes.HEADER-LEN ≤ k → header (take k (m ++ rest)) ≡ header m
   taken-same k h = take-take Codes.HEADER-LEN k (m ++ rest) h ∙ head-same
 
-module _ (devid : ℕ) (is : List Item) (m rest : List ℕ) (command : headerOf (header m) .command ≡ Codes.CMD-SUBMIT)
+module _ (devid time : ℕ) (is : List Item) (m rest : List ℕ) (command : headerOf (header m) .command ≡ Codes.CMD-SUBMIT)
     (whole : length m ≡ messageLen (header m)) where
   submit-long : Codes.HEADER-LEN ≤ length m
   submit-long = omega (arith, whole)
@@ -525,26 +526,27 @@ module _ (devid : ℕ) (is : List Item) (m rest : List ℕ) (command : headerOf 
       let e = head-same m rest submit-long in
       submit-size (m ++ rest) (ap (λ h. headerOf h .command) e ∙ command) ∙ ap messageLen e ∙ sym whole
 
-  verdict : (e : Event) (k : ℕ) → MessageReaches [] (m ++ rest) (done e) k → RightMessage devid is (take k (m ++ rest)) e → Verdict devid is m (done e) k
+  verdict : (e : Event) (k : ℕ) → MessageReaches [] (m ++ rest) (done e) k → RightMessage devid time is (take k (m ++ rest)) e
+      → Verdict devid time is m (done e) k
   verdict hungry k c r = absurd (omega (arith, c .0, size-same, length-append m rest))
   verdict list k c r = absurd r
   verdict (import st) k c r = absurd r
   verdict (submit u) k c r =
       let l : k ≡ length m = omega (arith, c .1, size-same) in
       let e = taken-same m rest submit-long k (omega arith) in
-      accepts devid is m u k l (rw e at (r .1)) (rw e at (r .3)) (rw e at (r .4))
+      accepts devid time is m u k l (rw e at (r .1)) (rw e at (r .3)) (rw e at (r .4))
   verdict (answer q st) k c r =
       let l : k ≡ length m = omega (arith, c .1, size-same) in
       let e = taken-same m rest submit-long k (omega arith) in
-      answers devid is m q st k l (rw e at (r .1)) (rw e at (r .3)) (rw e at (r .4))
+      answers devid time is m q st k l (rw e at (r .1)) (rw e at (r .3)) (rw e at (r .4))
   verdict (unlink q st o) k c r =
       let l : k ≡ length m = omega (arith, c .1, size-same) in
       absurd (omega (arith, command, rw (taken-same m rest submit-long k (omega arith)) at (r .2)))
   verdict (break f ts) k c r =
       let l : k ≡ Codes.HEADER-LEN = omega (arith, c .1) in
-      breaks devid is m f ts k l (rw (taken-same m rest submit-long k (omega arith)) at (r .1)) (r .2)
+      breaks devid time is m f ts k l (rw (taken-same m rest submit-long k (omega arith)) at (r .1)) (r .2)
 
-module _ (devid : ℕ) (is : List Item) (m rest : List ℕ) (command : headerOf (header m) .command ≡ Codes.CMD-UNLINK)
+module _ (devid time : ℕ) (is : List Item) (m rest : List ℕ) (command : headerOf (header m) .command ≡ Codes.CMD-UNLINK)
     (whole : length m ≡ Codes.HEADER-LEN) where
   unlink-long : Codes.HEADER-LEN ≤ length m
   unlink-long = omega (arith, whole)
@@ -555,7 +557,7 @@ module _ (devid : ℕ) (is : List Item) (m rest : List ℕ) (command : headerOf 
   no-submit : {A : Type 0} (k : ℕ) → k ≡ Codes.HEADER-LEN → headerOf (header (take k (m ++ rest))) .command ≡ Codes.CMD-SUBMIT → A
   no-submit k l c = absurd (omega (arith, command, rw (taken-same m rest unlink-long k (omega arith)) at c))
 
-  unlink-verdict : (e : Event) (k : ℕ) → MessageReaches [] (m ++ rest) (done e) k → RightMessage devid is (take k (m ++ rest)) e
+  unlink-verdict : (e : Event) (k : ℕ) → MessageReaches [] (m ++ rest) (done e) k → RightMessage devid time is (take k (m ++ rest)) e
       → UnlinkVerdict devid is m (done e) k
   unlink-verdict hungry k c r = absurd (omega (arith, c .0, unlink-same, length-append m rest))
   unlink-verdict list k c r = absurd r
@@ -564,19 +566,19 @@ module _ (devid : ℕ) (is : List Item) (m rest : List ℕ) (command : headerOf 
   unlink-verdict (answer q st) k c r = no-submit k (omega (arith, c .1, unlink-same)) (r .2)
   unlink-verdict (unlink q st o) k c r =
       let l : k ≡ Codes.HEADER-LEN = omega (arith, c .1, unlink-same) in
-      let y : Clear (faults devid is m) = rw (taken-same m rest unlink-long k (omega arith)) at (r .1) in
+      let y : Clear (faults devid time is m) = rw (taken-same m rest unlink-long k (omega arith)) at (r .1) in
       record {
-        broken = λ f ts. ((λ h. differ (cc)), λ h. not-clear (faults devid is m) f y (h .0));
+        broken = λ f ts. ((λ h. differ (cc)), λ h. not-clear (faults devid time is m) f y (h .0));
         answered = ((λ _. y), λ _. (q, st, o, refl));
         whole = l;
       }
   unlink-verdict (break f ts) k c r =
       let l : k ≡ Codes.HEADER-LEN = omega (arith, c .1) in
-      let g : Gives (faults devid is m) f = rw (taken-same m rest unlink-long k (omega arith)) at (r .1) in
+      let g : Gives (faults devid time is m) f = rw (taken-same m rest unlink-long k (omega arith)) at (r .1) in
       let e = r .2 in
       record {
-        broken = λ n us. ((λ h. ((let i : n ≡ f = cc in rw i g), cc)), λ h. cc (one-answer (faults devid is m) f n g (h .0), h .1));
-        answered = ((λ h. let d = h .3 in differ (cc)), λ y. not-clear (faults devid is m) f y g);
+        broken = λ n us. ((λ h. ((let i : n ≡ f = cc in rw i g), cc)), λ h. cc (one-answer (faults devid time is m) f n g (h .0), h .1));
+        answered = ((λ h. let d = h .3 in differ (cc)), λ y. not-clear (faults devid time is m) f y g);
         whole = l;
       }
 
@@ -590,13 +592,14 @@ feed-clear s b lent a g = (
 )
 
 -- what is right of every event of a message that reaches so far is right of the event that a feed gives
-ready-feed : (s : Sess) (b : Book) (lent : Buffers) (p : List ℕ) → Agrees s b → Ready s b lent → RightFeed s b p lent → (P : Outcome Event → ℕ → Type 0)
-    → ((e : Event) (k : ℕ) → MessageReaches [] p (done e) k → RightMessage (s .link .devid) (b .items) (take k p) e → P (done e) k)
-    → let r = feedOf s lent p in P (r .event) (r .consumed)
-ready-feed s b lent p a g h P f =
-    let r = feedOf s lent p in
+ready-feed : (s : Sess) (b : Book) (lent : Buffers) (p : List ℕ) (time : ℕ) → Agrees s b → Ready s b lent → RightFeed s b p lent time
+    → (P : Outcome Event → ℕ → Type 0)
+    → ((e : Event) (k : ℕ) → MessageReaches [] p (done e) k → RightMessage (s .link .devid) time (b .items) (take k p) e → P (done e) k)
+    → let r = feedOf s lent p time in P (r .event) (r .consumed)
+ready-feed s b lent p time a g h P f =
+    let r = feedOf s lent p time in
     let w : eqb (s .link .phase) Limits.WAITING ≡ false = ap (λ p. eqb p Limits.WAITING) (g .attached) in
-    let k : MessageReaches (b .part) p (r .event) (r .consumed) = rw w at (reaches s b lent p h) in
+    let k : MessageReaches (b .part) p (r .event) (r .consumed) = rw w at (reaches s b lent p time h) in
     ⊎-elim (λ i. not-clear (feedRowsBy b lent) (i .0) (feed-clear s b lent a g) (h .refuses (i .0) (i .1) .0))
     (λ i.
     let e = i .0 in
@@ -604,24 +607,25 @@ ready-feed s b lent p a g h P f =
     (refused-or (r .event))
 
 pub accept-iff : AcceptIff
-accept-iff t cs lent m rest g w =
+accept-iff t cs lent time m rest g w =
     let s = sessionFrom t cs in
     let b = bookFrom t cs in
-    let h = right-from t cs (feed (m ++ rest) lent) in
-    ready-feed s b lent (m ++ rest) (h .0) g (h .1) (Verdict (s .link .devid) (b .items) m) (verdict (s .link .devid) (b .items) m rest (w .0) (w .1))
+    let h = right-from t cs (feed (m ++ rest) lent time) in
+    ready-feed s b lent (m ++ rest) time (h .0) g (h .1) (Verdict (s .link .devid) time (b .items) m)
+    (verdict (s .link .devid) time (b .items) m rest (w .0) (w .1))
 
 pub unlink-iff : UnlinkIff
-unlink-iff t cs lent m rest g w =
+unlink-iff t cs lent time m rest g w =
     let s = sessionFrom t cs in
     let b = bookFrom t cs in
-    let h = right-from t cs (feed (m ++ rest) lent) in
-    ready-feed s b lent (m ++ rest) (h .0) g (h .1) (UnlinkVerdict (s .link .devid) (b .items) m)
-    (unlink-verdict (s .link .devid) (b .items) m rest (w .0) (w .1))
+    let h = right-from t cs (feed (m ++ rest) lent time) in
+    ready-feed s b lent (m ++ rest) time (h .0) g (h .1) (UnlinkVerdict (s .link .devid) (b .items) m)
+    (unlink-verdict (s .link .devid) time (b .items) m rest (w .0) (w .1))
 
-answered-next : (s : Sess) (b : Book) (p : List ℕ) (lent : Buffers) (q st : ℕ) → Holds s b (feed p lent ∷ [])
-    → feedOf s lent p .event ≡ done (answer q st) → feedOf s lent p .next ≡ between s
-answered-next s b p lent q st h e =
-    let r = feedOf s lent p in
+answered-next : (s : Sess) (b : Book) (p : List ℕ) (lent : Buffers) (time q st : ℕ) → Holds s b (feed p lent time ∷ [])
+    → feedOf s lent p time .event ≡ done (answer q st) → feedOf s lent p time .next ≡ between s
+answered-next s b p lent time q st h e =
+    let r = feedOf s lent p time in
     let k = r .consumed in
     let now = subst (λ (o : Outcome Event). Agrees (r .next) (keep b (fed p o k))) e (h .7) in
     let at = subst (λ (o : Outcome Event). Attaches (s .table) (s .link .phase) (s .link .devid) (b .part ++ take k p) (fed p o k) (r .next)) e (h .5) in
@@ -648,4 +652,4 @@ answered-next s b p lent q st h e =
     }
 
 pub answered-stays : AnsweredStays
-answered-stays t cs p lent q st h = answered-next (sessionFrom t cs) (bookFrom t cs) p lent q st (held t cs (feed p lent ∷ [])) h
+answered-stays t cs p lent time q st h = answered-next (sessionFrom t cs) (bookFrom t cs) p lent time q st (held t cs (feed p lent time ∷ [])) h

@@ -263,7 +263,7 @@ above : (k : ℕ) (is : List Item) → Counted (suc k) is → Above k (tickets (
 above k [] h = tt
 above k (i ∷ is) h = above-at (i .fate) k (i .urb) (pendingOf is) (h .0) (above (suc k) is (h .1))
 
-rises : (t : ℕ) (xs : List ℕ) → Above t xs → Rising xs
+pub rises : (t : ℕ) (xs : List ℕ) → Above t xs → Rising xs
 rises t [] h = tt
 rises t (x ∷ xs) h = h .1
 

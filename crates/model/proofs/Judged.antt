@@ -97,9 +97,9 @@ came phase b x g =
 -- ## What is said
 
 -- right by the bytes of the message, allowed by the book, and hungry only where the message goes on
-abbrev pub Judged : Table → ℕ → ℕ → Book → Event → Type 0
-Judged t phase devid b e =
-    byPhase (eqb phase Limits.WAITING) (RightRequest t (b .items) (b .part) e) (RightMessage devid (b .items) (b .part) e)
+abbrev pub Judged : Table → (phase devid time : ℕ) → Book → Event → Type 0
+Judged t phase devid time b e =
+    byPhase (eqb phase Limits.WAITING) (RightRequest t (b .items) (b .part) e) (RightMessage devid time (b .items) (b .part) e)
     × Allowed phase b (effectOf e)
     × (e ≡ hungry → Going phase b)
 
@@ -114,12 +114,12 @@ pub looked-up : (t : Table) (phase devid : ℕ) (b : Book) → length (b .part) 
 unfolding lookedUp
 looked-up t phase devid b l = ap (λ m. findIn t (busidOf m)) (bytes-in (b .part) l)
 
-module _ (t : Table) (devid : ℕ) (b : Book) (f : Fit Limits.WAITING b) (c : Came Limits.WAITING b) where
+module _ (t : Table) (devid time : ℕ) (b : Book) (f : Fit Limits.WAITING b) (c : Came Limits.WAITING b) where
   abbrev now : Sess
   now = sessionOf t Limits.WAITING devid b
 
   abbrev Asked : Event → Type 0
-  Asked e = Judged t Limits.WAITING devid b e
+  Asked e = Judged t Limits.WAITING devid time b e
 
   -- a request never gets as far as a header
   no-header : length (b .part) < Codes.HEADER-LEN
@@ -215,7 +215,8 @@ any-devid : (is : List Item) (h : List ℕ) (d e : ℕ) → headerOf h .command 
 any-devid is h d e c y =
     (y .0, (y .1 .0, (y .1 .1 .0, (y .1 .1 .1 .0, (y .1 .1 .1 .1 .0, (y .1 .1 .1 .1 .1 .0, ((λ q. omega (arith, c, q .0)), tt)))))))
 
-module _ (t : Table) (phase devid : ℕ) (b : Book) (f : Fit phase b) (away : phase ≡ Limits.WAITING → ⊥) (o : b .closed ≡ false) (c : Came phase b) where
+module _ (t : Table) (phase devid time : ℕ) (b : Book) (f : Fit phase b) (away : phase ≡ Limits.WAITING → ⊥) (o : b .closed ≡ false)
+    (c : Came phase b) where
   abbrev here : Sess
   here = sessionOf t phase devid b
 
@@ -224,14 +225,14 @@ module _ (t : Table) (phase devid : ℕ) (b : Book) (f : Fit phase b) (away : ph
   head = headerOf (header (b .part))
 
   abbrev Said : Event → Type 0
-  Said e = RightMessage devid (b .items) (b .part) e × Allowed phase b (effectOf e) × (e ≡ hungry → Going phase b)
+  Said e = RightMessage devid time (b .items) (b .part) e × Allowed phase b (effectOf e) × (e ≡ hungry → Going phase b)
 
   -- a message that goes on
   proceeds : (Codes.HEADER-LEN ≤ length (b .part) → GoodHeader b × (length (b .part) < messageLen (header (b .part)))) → Going phase b
   proceeds g = record { request = λ w l. absurd (away w); message = λ w l. g l }
 
   -- all of a submit's bytes are in
-  submitted-right : GoodHeader b → length (b .part) ≡ messageLen (header (b .part)) → Said (submitted here head)
+  submitted-right : GoodHeader b → length (b .part) ≡ messageLen (header (b .part)) → Said (submitted time here head)
   unfolding submitted
   submitted-right g l =
       let d = header (b .part) in
@@ -241,13 +242,13 @@ module _ (t : Table) (phase devid : ℕ) (b : Book) (f : Fit phase b) (away : ph
       (λ n h. ((l, g .0 devid, g .1, gives ts (submitRowsBy devid (b .items) d) m n h, refl), tt, λ p. differ (cc)))
       λ h.
       let y = clear ts (submitRowsBy devid (b .items) d) m h in (
-        (l, g .0 devid, g .1, y, refl, (refl, refl, refl, refl, refl, refl, refl, refl, refl, refl)),
+        (l, g .0 devid, g .1, y, refl, (refl, refl, refl, refl, refl, refl, refl, refl, refl, refl, refl)),
         (refl, free b d devid (g .0 devid) (g .1), o, away),
         λ p. differ (cc),
       )
 
   submitting-right : GoodHeader b → Codes.HEADER-LEN ≤ length (b .part) → length (b .part) ≤ messageLen (header (b .part))
-      → Said (submitting here head (length (b .part) - Codes.HEADER-LEN))
+      → Said (submitting time here head (length (b .part) - Codes.HEADER-LEN))
   unfolding submitting
   submitting-right g l k =
       let body = length (b .part) - Codes.HEADER-LEN in
@@ -270,7 +271,7 @@ module _ (t : Table) (phase devid : ℕ) (b : Book) (f : Fit phase b) (away : ph
         λ p. differ (cc),
       )
 
-  whole-right : length (b .part) ≡ Codes.HEADER-LEN → Said (wholeHeader here head)
+  whole-right : length (b .part) ≡ Codes.HEADER-LEN → Said (wholeHeader time here head)
   unfolding wholeHeader
   whole-right l =
       let d = header (b .part) in
@@ -283,11 +284,11 @@ module _ (t : Table) (phase devid : ℕ) (b : Book) (f : Fit phase b) (away : ph
       by-test Said
       (λ k.
       let e = eqb-true (head .command) Codes.CMD-SUBMIT k in
-      subst (λ (n : ℕ). Said (submitting here head n)) bare
+      subst (λ (n : ℕ). Said (submitting time here head n)) bare
       (submitting-right ((λ i. any-devid (b .items) d devid i e y), e) (omega arith) (omega arith)))
       λ k. unlinks-right _ refl l y (second (head .command) Codes.CMD-SUBMIT Codes.CMD-UNLINK (y .0) (eqb-false _ _ k))
 
-  bodied-right : Codes.HEADER-LEN ≤ length (b .part) → Said (message here (headed head (length (b .part) - Codes.HEADER-LEN)))
+  bodied-right : Codes.HEADER-LEN ≤ length (b .part) → Said (message time here (headed head (length (b .part) - Codes.HEADER-LEN)))
   unfolding message
   bodied-right l =
       let body = length (b .part) - Codes.HEADER-LEN in
@@ -297,27 +298,27 @@ module _ (t : Table) (phase devid : ℕ) (b : Book) (f : Fit phase b) (away : ph
       let g = c .message away (omega (arith, eqb-false body 0 e)) in
       submitting-right (g .0) l (g .1)
 
-  heading-right : length (b .part) < Codes.HEADER-LEN → Said (message here (partly (b .part)))
+  heading-right : length (b .part) < Codes.HEADER-LEN → Said (message time here (partly (b .part)))
   unfolding message
   heading-right l = (inl l, tt, λ _. proceeds (λ k. absurd (omega arith)))
 
-  message-right : Said (message here (messageIn (b .part)))
+  message-right : Said (message time here (messageIn (b .part)))
   message-right =
       short (length (b .part)) Codes.HEADER-LEN
-      (λ l. subst (λ (m : Message). Said (message here m)) (sym (heading (b .part) l)) (heading-right l))
-      (λ l. subst (λ (m : Message). Said (message here m)) (sym (bodied (b .part) l)) (bodied-right l))
+      (λ l. subst (λ (m : Message). Said (message time here m)) (sym (heading (b .part) l)) (heading-right l))
+      (λ l. subst (λ (m : Message). Said (message time here m)) (sym (bodied (b .part) l)) (bodied-right l))
 
 -- ## A byte
 
-pub judge-right : (t : Table) (phase devid : ℕ) (b : Book) → Fit phase b → b .closed ≡ false → Came phase b
-    → Judged t phase devid b (judge (sessionOf t phase devid b))
+pub judge-right : (t : Table) (phase devid time : ℕ) (b : Book) → Fit phase b → b .closed ≡ false → Came phase b
+    → Judged t phase devid time b (judge time (sessionOf t phase devid b))
 unfolding judge
-judge-right t phase devid b f o c = by-test (Judged t phase devid b) (λ h. waiting (eqb-true phase Limits.WAITING h)) (λ h. attached h)
+judge-right t phase devid time b f o c = by-test (Judged t phase devid time b) (λ h. waiting (eqb-true phase Limits.WAITING h)) (λ h. attached h)
   where
-    waiting : phase ≡ Limits.WAITING → Judged t phase devid b (request (sessionOf t phase devid b) (messageIn (b .part)))
+    waiting : phase ≡ Limits.WAITING → Judged t phase devid time b (request (sessionOf t phase devid b) (messageIn (b .part)))
     waiting e =
-        subst (λ (p : ℕ). Fit p b → Came p b → Judged t p devid b (request (sessionOf t p devid b) (messageIn (b .part)))) (sym e)
-        (λ f c. request-right t devid b f c) f c
+        subst (λ (p : ℕ). Fit p b → Came p b → Judged t p devid time b (request (sessionOf t p devid b) (messageIn (b .part)))) (sym e)
+        (λ f c. request-right t devid time b f c) f c
 
-    attached : eqb phase Limits.WAITING ≡ false → Judged t phase devid b (message (sessionOf t phase devid b) (messageIn (b .part)))
-    attached h = rw h (message-right t phase devid b f (eqb-false phase Limits.WAITING h) o c)
+    attached : eqb phase Limits.WAITING ≡ false → Judged t phase devid time b (message time (sessionOf t phase devid b) (messageIn (b .part)))
+    attached h = rw h (message-right t phase devid time b f (eqb-false phase Limits.WAITING h) o c)

@@ -5,7 +5,9 @@ pub mod Steps
 pub mod Judged
 pub mod Runs
 pub mod Corollaries
+pub mod Stale
 pub mod Cutting
 pub mod Growth
+pub mod Times
 pub mod Cut
 pub mod Untouched

@@ -135,8 +135,8 @@ module _ (t : Table) (phase devid : ℕ) (b : Book) (f : Fit phase b) (o : b .cl
   unfolding pick
   after-unknown h = ended (import 1) refl h refl (refl, refl)
 
-  after-import : (st : ℕ) → Judged t phase devid b (import st) → Leaves (import st)
-  after-import st r =
+  after-import : (time st : ℕ) → Judged t phase devid time b (import st) → Leaves (import st)
+  after-import time st r =
       let q = asked (eqb phase Limits.WAITING) (r .0) in
       ⊎-elim (λ p. subst (λ (k : ℕ). Leaves (import k)) (sym (p .0)) (after-found (omega (arith, q .0)) (p .1) (p .2)))
       (λ p.
@@ -145,9 +145,9 @@ module _ (t : Table) (phase devid : ℕ) (b : Book) (f : Fit phase b) (o : b .cl
       (q .3)
 
   -- an unlink takes out by the seqnum the URB that has the ticket
-  unlinked-is : (q st : ℕ) (v : Option ℕ) → Judged t phase devid b (unlink q st v) → afterUnlink now v ≡ act now (removal v)
-  unlinked-is q st none r = refl
-  unlinked-is q st (some k) r =
+  unlinked-is : (time q st : ℕ) (v : Option ℕ) → Judged t phase devid time b (unlink q st v) → afterUnlink now v ≡ act now (removal v)
+  unlinked-is time q st none r = refl
+  unlinked-is time q st (some k) r =
       let m = said (eqb phase Limits.WAITING) (r .0) in
       let w = m .4 .1 in
       let u = w .0 in
@@ -169,30 +169,30 @@ module _ (t : Table) (phase devid : ℕ) (b : Book) (f : Fit phase b) (o : b .cl
         attaches = (refl, refl);
       }
 
-  pub after-right : (e : Event) → Judged t phase devid b e → Leaves e
-  after-right hungry r = after-hungry (r .2 refl)
-  after-right list r = ended list refl (r .1) refl (refl, refl)
-  after-right (import st) r = after-import st r
-  after-right (submit u) r = ended (submit u) refl (r .1) refl (refl, refl)
-  after-right (answer q st) r = ended (answer q st) refl (r .1) refl (refl, refl)
-  after-right (unlink q st v) r = ended (unlink q st v) refl (r .1) (ap between (unlinked-is q st v r)) (unlink-stays v)
+  pub after-right : (time : ℕ) (e : Event) → Judged t phase devid time b e → Leaves e
+  after-right time hungry r = after-hungry (r .2 refl)
+  after-right time list r = ended list refl (r .1) refl (refl, refl)
+  after-right time (import st) r = after-import time st r
+  after-right time (submit u) r = ended (submit u) refl (r .1) refl (refl, refl)
+  after-right time (answer q st) r = ended (answer q st) refl (r .1) refl (refl, refl)
+  after-right time (unlink q st v) r = ended (unlink q st v) refl (r .1) (ap between (unlinked-is time q st v r)) (unlink-stays v)
     where
       unlink-stays : (v : Option ℕ) → AttachesBy t phase devid (b .part) (unlink q st v) (after now (unlink q st v))
       unlink-stays none = (refl, refl)
       unlink-stays (some k) = (refl, refl)
-  after-right (break n ts) r = ended (break n ts) refl (r .1) refl (refl, refl)
+  after-right time (break n ts) r = ended (break n ts) refl (r .1) refl (refl, refl)
 
 -- ## A piece
 
 quiet-not : {A : Type 0} (e : Event) → e ≡ hungry → isHungry e ≡ false → A
 quiet-not e p h = absurd (true≢false (sym (ap isHungry p) ∙ h))
 
-module _ (t : Table) (phase devid : ℕ) where
+module _ (t : Table) (phase devid time : ℕ) where
   abbrev at : Book → Sess
   at b = sessionOf t phase devid b
 
   abbrev RightAt : Book → List ℕ → Event → Type 0
-  RightAt b m e = byPhase (eqb phase Limits.WAITING) (RightRequest t (b .items) m e) (RightMessage devid (b .items) m e)
+  RightAt b m e = byPhase (eqb phase Limits.WAITING) (RightRequest t (b .items) m e) (RightMessage devid time (b .items) m e)
 
   -- m: the bytes consumed for the message; n: those of the piece
   pub record FedRight (b : Book) (m : List ℕ) (n : ℕ) (r : Fed Sess Event Buffers) : Type 0 where
@@ -205,7 +205,7 @@ module _ (t : Table) (phase devid : ℕ) where
   idle-right b g = by-phase (eqb phase Limits.WAITING) refl
     where
       by-phase : (c : Bool) → eqb phase Limits.WAITING ≡ c
-          → byPhase c (RightRequest t (b .items) (b .part) hungry) (RightMessage devid (b .items) (b .part) hungry)
+          → byPhase c (RightRequest t (b .items) (b .part) hungry) (RightMessage devid time (b .items) (b .part) hungry)
       by-phase true e =
           short (length (b .part)) Codes.OP-LEN (λ l. inl l)
           λ l. let r = g .request (eqb-true phase Limits.WAITING e) l in inr (l, r .1, r .0 .0, r .0 .1)
@@ -214,7 +214,7 @@ module _ (t : Table) (phase devid : ℕ) where
           λ l. let r = g .message (eqb-false phase Limits.WAITING e) l in inr (l, r .0 .0 devid, r .0 .1, r .1)
 
   fed-right : (xs : List ℕ) (lent : Buffers) (b : Book) → Fit phase b → b .closed ≡ false → Going phase b
-      → let r = feedBytes (at b) lent xs in FedRight b (b .part ++ take (r .consumed) xs) (length xs) r
+      → let r = feedBytes (at b) lent xs time in FedRight b (b .part ++ take (r .consumed) xs) (length xs) r
   unfolding Rattle.model.specs.Machine.feed
   fed-right [] lent b f o g =
       subst (λ (m : List ℕ). FedRight b m 0 (record { event = hungry; consumed = 0; buffers = lent; next = at b })) (sym (append-nil (b .part)))
@@ -226,19 +226,19 @@ module _ (t : Table) (phase devid : ℕ) where
   fed-right (x ∷ xs) lent b f o g =
       let b′ = took b (x ∷ []) in
       let f′ = fit-part phase b (b′ .part) f in
-      let j = judge-right t phase devid b′ f′ o (came phase b x g) in
+      let j = judge-right t phase devid time b′ f′ o (came phase b x g) in
       rw (grow-is t phase devid b x)
       (by-test (λ (r : Fed Sess Event Buffers). FedRight b (b .part ++ take (r .consumed) (x ∷ xs)) (suc (length xs)) r)
       (λ h.
-      let q = fed-right xs (put (at b) x lent) b′ f′ o (j .2 (lawful .silent (at b′) h)) in
-      let r = feedBytes (at b′) (put (at b) x lent) xs in
+      let q = fed-right xs (put (at b) x lent) b′ f′ o (j .2 (lawful time .silent (at b′) h)) in
+      let r = feedBytes (at b′) (put (at b) x lent) xs time in
       let e = append-snoc (b .part) x (take (r .consumed) xs) in
       record {
         right = subst (λ (m : List ℕ). RightAt b m (r .event)) e (q .right);
         left = subst (λ (m : List ℕ). After t phase devid (withPart m b) (r .event) (r .next)) e (q .left);
         all = λ k. ap suc (q .all k);
       })
-      λ h. record { right = j .0; left = after-right t phase devid b′ f′ o (judge (at b′)) j; all = λ k. quiet-not (judge (at b′)) k h })
+      λ h. record { right = j .0; left = after-right t phase devid b′ f′ o time (judge time (at b′)) j; all = λ k. quiet-not (judge time (at b′)) k h })
 
   -- the session when some bytes are in
   all-in : (xs : List ℕ) (b : Book) → stepAll grow (at b) xs ≡ at (took b xs)
@@ -335,13 +335,13 @@ module _ (t : Table) (phase devid : ℕ) (b : Book) (f : Fit phase b) (g : Going
 
   -- ## A feed
 
-  module _ (p : List ℕ) (lent : Buffers) where
+  module _ (p : List ℕ) (lent : Buffers) (time : ℕ) where
     abbrev message-in : Fed Sess (Outcome Event) Buffers → List ℕ
     message-in r = b .part ++ take (r .consumed) p
 
     pub record FeedHolds (r : Fed Sess (Outcome Event) Buffers) : Type 0 where
       pub refuses : (n : ℕ) → r .event ≡ refused n → Gives (feedRowsBy b lent) n × (r .consumed ≡ 0) × (r .buffers ≡ lent) × (r .next ≡ now′)
-      pub right : (e : Event) → r .event ≡ done e → Clear (feedRowsBy b lent) × RightAt t phase devid b (message-in r) e
+      pub right : (e : Event) → r .event ≡ done e → Clear (feedRowsBy b lent) × RightAt t phase devid time b (message-in r) e
       pub all : r .event ≡ done hungry → r .consumed ≡ length p
       pub left : Left t phase devid b (fed p (r .event) (r .consumed)) (r .next)
 
@@ -355,14 +355,14 @@ module _ (t : Table) (phase devid : ℕ) (b : Book) (f : Fit phase b) (g : Going
           left = still (fed p (refused n) 0) refl refl (refl, refl);
         }
 
-    feed-done : first (feedTestsOf now′ lent) ≡ none → FeedHolds (doneFeed (feedBytes now′ lent p))
+    feed-done : first (feedTestsOf now′ lent) ≡ none → FeedHolds (doneFeed (feedBytes now′ lent p time))
     feed-done h =
         let y = clear (feedTestsOf now′ lent) (feedRowsBy b lent) (feed-match now′ b lent (f .closes)) h in
-        let r = feedBytes now′ lent p in
-        let q = fed-right t phase devid p lent b f (never-true (b .closed) (y .0)) g in
+        let r = feedBytes now′ lent p time in
+        let q = fed-right t phase devid time p lent b f (never-true (b .closed) (y .0)) g in
         record {
           refuses = λ n e. differ (cc);
-          right = λ e k. let i : r .event ≡ e = cc in (y, subst (RightAt t phase devid b (b .part ++ take (r .consumed) p)) i (q .right));
+          right = λ e k. let i : r .event ≡ e = cc in (y, subst (RightAt t phase devid time b (b .part ++ take (r .consumed) p)) i (q .right));
           all = λ k. q .all (cc);
           left =
               record {
@@ -375,26 +375,26 @@ module _ (t : Table) (phase devid : ℕ) (b : Book) (f : Fit phase b) (g : Going
               };
         }
 
-    feed-holds : FeedHolds (feedOf now′ lent p)
+    feed-holds : FeedHolds (feedOf now′ lent p time)
     unfolding feedOf
     feed-holds = by-first FeedHolds (first (feedTestsOf now′ lent)) feed-refused feed-done
 
     -- the buffers, by the laws of every feed
-    feed-reply : let r = feedOf now′ lent p in
+    feed-reply : let r = feedOf now′ lent p time in
         (bytes : List ℕ)
         × Replies t (message-in r) (r .event) bytes
         × (r .buffers .reply ≡ over bytes (lent .reply))
         × (written now′ p r ≡ length bytes)
     feed-reply =
-        let r = feedOf now′ lent p in (
+        let r = feedOf now′ lent p time in (
           replied now′ p r,
-          rw (all-in t phase devid (take (r .consumed) p) b) (reply-is t phase devid b (message-in r) (r .event) (λ e h. feed-holds .right e h .1)),
-          untouched now′ lent p .reply,
+          rw (all-in t phase devid time (take (r .consumed) p) b) (reply-is t phase devid time b (message-in r) (r .event) (λ e h. feed-holds .right e h .1)),
+          untouched now′ lent p time .reply,
           refl,
         )
 
-    feed-work : let r = feedOf now′ lent p in r .buffers .work ≡ sets (lent .work) (placeOf (b .part)) (dataIn (b .part) (take (r .consumed) p))
-    feed-work = untouched now′ lent p .work ∙ rw (place-in (b .part), room-in (b .part))
+    feed-work : let r = feedOf now′ lent p time in r .buffers .work ≡ sets (lent .work) (placeOf (b .part)) (dataIn (b .part) (take (r .consumed) p))
+    feed-work = untouched now′ lent p time .work ∙ rw (place-in (b .part), room-in (b .part))
 
   -- ## A completion
 
@@ -550,21 +550,21 @@ agrees t phase devid b f =
     }
 
 right : (t : Table) (phase devid : ℕ) (b : Book) → Fit phase b → Going phase b → (c : Call) → Right (sessionOf t phase devid b) b c
-right t phase devid b f g (feed p lent) =
-    let h = feed-holds t phase devid b f g p lent in
+right t phase devid b f g (feed p lent time) =
+    let h = feed-holds t phase devid b f g p lent time in
     record {
       refuses = h .refuses;
       right = h .right;
       all = h .all;
-      reply = feed-reply t phase devid b f g p lent;
-      work = feed-work t phase devid b f g p lent;
+      reply = feed-reply t phase devid b f g p lent time;
+      work = feed-work t phase devid b f g p lent time;
     }
 right t phase devid b f g (complete c) = let h = complete-holds t phase devid b f g c in record { refuses = h .refuses; accepts = h .accepts }
 right t phase devid b f g close = let h = close-holds t phase devid b f g in record { refuses = h .refuses; accepts = h .accepts }
 
 leaves : (t : Table) (phase devid : ℕ) (b : Book) → Fit phase b → Going phase b → (c : Call)
     → let s = sessionOf t phase devid b in Left t phase devid b (entryOf s c) (nextOf s c)
-leaves t phase devid b f g (feed p lent) = feed-holds t phase devid b f g p lent .left
+leaves t phase devid b f g (feed p lent time) = feed-holds t phase devid b f g p lent time .left
 leaves t phase devid b f g (complete c) = complete-holds t phase devid b f g c .left
 leaves t phase devid b f g close = close-holds t phase devid b f g .left
 

@@ -65,17 +65,17 @@ judged-import : (s : Sess) (f : Found) → Judged s (Judging.imports f)
 judged-import s (At i) = tt
 judged-import s Nothing = tt
 
-module _ (s : Sess) (n : s .link .phase ≡ Limits.WAITING → ⊥) where
+module _ (time : ℕ) (s : Sess) (n : s .link .phase ≡ Limits.WAITING → ⊥) where
   announced : Announced (s .link .message) → Waits s
   announced a = record { request = λ w. absurd (n w); message = λ _. a }
 
-  judged-submit : (h : Header) (body : ℕ) → s .link .message ≡ headed h body → Judged s (Judging.submitting s h body)
+  judged-submit : (h : Header) (body : ℕ) → s .link .message ≡ headed h body → Judged s (Judging.submitting time s h body)
   unfolding Judging.submitting Judging.submitted
   judged-submit h body e =
       by-test (Judged s) (λ l. announced (rw e (ltb-true body (bodyLen h) l)))
       (λ _. by-first (Judged s) (first (Judging.submitTestsOf h s)) (λ _ _. tt) (λ _. tt))
 
-  judged-header : (h : Header) → s .link .message ≡ headed h 0 → Judged s (Judging.wholeHeader s h)
+  judged-header : (h : Header) → s .link .message ≡ headed h 0 → Judged s (Judging.wholeHeader time s h)
   unfolding Judging.wholeHeader
   judged-header h e =
       let f : InFront s = rw e in
@@ -83,7 +83,7 @@ module _ (s : Sess) (n : s .link .phase ≡ Limits.WAITING → ⊥) where
       (λ _. by-test (Judged s) (λ _. judged-submit h 0 e)
       (λ _. judged-unlink s (h .transfer .seqnum) (findBy seqnumOf (unlinkSeqnum h) (s .pend)) f))
 
-  judged-message : (m : Message) → s .link .message ≡ m → Judged s (Judging.message s m)
+  judged-message : (m : Message) → s .link .message ≡ m → Judged s (Judging.message time s m)
   unfolding Judging.message
   judged-message (partly bytes) e = announced (rw e tt)
   judged-message (headed h body) e =
@@ -101,11 +101,11 @@ module _ (s : Sess) (w : s .link .phase ≡ Limits.WAITING) where
       (λ _. by-test (Judged s) (λ _. f) (λ _. waits (omega (arith, eqb-true (length m) Codes.OP-LEN l)))))
       (λ _. by-test (Judged s) (λ l. waits (omega (arith, ltb-true))) (λ _. judged-import s (Judging.lookedUp s))))
 
-judged : (s : Sess) → Judged s (judge s)
+judged : (time : ℕ) (s : Sess) → Judged s (judge time s)
 unfolding judge
-judged s =
+judged time s =
     by-test (Judged s) (λ w. judged-request s (eqb-true _ _ w) (s .link .message) refl)
-    (λ n. judged-message s (eqb-false _ _ n) (s .link .message) refl)
+    (λ n. judged-message time s (eqb-false _ _ n) (s .link .message) refl)
 
 -- ## Every feed
 
@@ -147,36 +147,36 @@ unfolding grow
 dataless-on s x xs d = d
 
 -- its feeds end with the header
-front-consumed : (xs : List ℕ) (b : Buffers) (s : Sess) → Heading (s .link .message) → Dataless s (take (feedBytes s b xs .consumed) xs)
-    → feedBytes s b xs .consumed ≤ room (s .link .message)
-front-consumed xs b s =
-    Cutting.by-feed grow put judge after writeReply Event.hungry isHungry
+front-consumed : (time : ℕ) (xs : List ℕ) (b : Buffers) (s : Sess) → Heading (s .link .message)
+    → Dataless s (take (feedBytes s b xs time .consumed) xs) → feedBytes s b xs time .consumed ≤ room (s .link .message)
+front-consumed time xs b s =
+    Cutting.by-feed grow put (judge time) after writeReply Event.hungry isHungry
     (λ s b xs r. Heading (s .link .message) → Dataless s (take (r .consumed) xs) → r .consumed ≤ room (s .link .message))
     (λ s b h d. omega arith)
     (λ s b x xs _ h d. room-some (s .link .message) h)
     (λ s b x xs r q f h d.
     let g = dataless-on s x (take (r .consumed) xs) d in
-    let w : Waits (grow s x) = rw (lawful .silent (grow s x) q) at (judged (grow s x)) in
+    let w : Waits (grow s x) = rw (lawful time .silent (grow s x) q) at (judged time (grow s x)) in
     let n = heading-on s x (take (r .consumed) xs) (s .link .message) refl h w g in
     omega (arith, n .1, f (n .0) g)) xs b s
 
 done-is : {e e′ : Event} → done e ≡ done e′ → e ≡ e′
 done-is h = cc
 
-module _ (s : Sess) (b : Buffers) (piece : List ℕ) where
+module _ (s : Sess) (b : Buffers) (piece : List ℕ) (time : ℕ) where
   abbrev fed : Feeding
-  fed = doneFeed (feedBytes s b piece)
+  fed = doneFeed (feedBytes s b piece time)
 
   -- what is said was judged when the bytes consumed were in
   fed-judged : (e : Event) → fed .event ≡ done e → isHungry e ≡ false → Judged (taken s piece fed) e
   fed-judged e h q =
-      rw (Cutting.fed-judged grow put judge after writeReply Event.hungry isHungry lawful piece b s (ap isHungry (done-is h) ∙ q) ∙ done-is h)
-      at (judged (taken s piece fed))
+      rw (Cutting.fed-judged grow put (judge time) after writeReply Event.hungry isHungry (lawful time) piece b s (ap isHungry (done-is h) ∙ q) ∙ done-is h)
+      at (judged time (taken s piece fed))
 
   fed-buffers : fed .buffers ≡ lent (sets (b .work) (place (s .link .message)) (dataPlaced s piece fed)) (over (replied s piece fed) (b .reply))
   unfolding writeReply
   fed-buffers =
-      ap (λ (r : Fed Sess Event Buffers). r .buffers) (Cutting.fed-is grow put judge after writeReply Event.hungry isHungry lawful piece b s)
+      ap (λ (r : Fed Sess Event Buffers). r .buffers) (Cutting.fed-is grow put (judge time) after writeReply Event.hungry isHungry (lawful time) piece b s)
       ∙ rw (put-all (take (fed .consumed) piece) b s)
 
   -- an event without a reply
@@ -193,7 +193,7 @@ module _ (s : Sess) (b : Buffers) (piece : List ℕ) where
   fed-heading : Heading (s .link .message) → Dataless s (take (fed .consumed) piece) → fed .buffers .work ≡ b .work
   fed-heading h d =
       fed-bare (drop-of-length-le (take (fed .consumed) piece) {i = room (s .link .message)}
-      (simp length-take (omega (arith, front-consumed piece b s h d))))
+      (simp length-take (omega (arith, front-consumed time piece b s h d))))
 
   leaving-bytes : Leaving s b piece fed
   unfolding replyTo
@@ -211,7 +211,7 @@ module _ (s : Sess) (b : Buffers) (piece : List ℕ) where
         dataless = λ h d. fed-heading h (λ _. d);
       }
 
-  leaving : Leaving s b piece (feedOf s b piece)
+  leaving : Leaving s b piece (feedOf s b piece time)
   unfolding feedOf
   leaving =
       by-first (Leaving s b piece) (first (Acts.feedTestsOf s b))
@@ -247,44 +247,46 @@ sets-past (x ∷ bytes) at n buffer h = sets-past bytes (suc at) n (set buffer a
 -- ## The work buffer is only written
 
 -- a feed without it
-abbrev feedReply : Sess → List ℕ → List ℕ → Fed Sess Event (List ℕ)
-feedReply s reply piece =
-    feed grow (λ s x reply. reply) judge after (λ s e reply. over (replyTo s e) reply) Event.hungry isHungry s reply piece
+abbrev feedReply : Sess → List ℕ → List ℕ → ℕ → Fed Sess Event (List ℕ)
+feedReply s reply piece time =
+    feed grow (λ s x reply. reply) (judge time) after (λ s e reply. over (replyTo s e) reply) Event.hungry isHungry s reply piece
 
-bytes-work-free : (s : Sess) (b : Buffers) (piece : List ℕ) → Cutting.of-part (λ b. b .reply) (feedBytes s b piece) ≡ feedReply s (b .reply) piece
+bytes-work-free : (s : Sess) (b : Buffers) (piece : List ℕ) (time : ℕ)
+    → Cutting.of-part (λ b. b .reply) (feedBytes s b piece time) ≡ feedReply s (b .reply) piece time
 unfolding put writeReply
-bytes-work-free s b piece =
-    Cutting.fed-part grow judge after Event.hungry isHungry (λ b. b .reply) put writeReply
+bytes-work-free s b piece time =
+    Cutting.fed-part grow (judge time) after Event.hungry isHungry (λ b. b .reply) put writeReply
     (λ s x reply. reply) (λ s e reply. over (replyTo s e) reply) (λ _ _ _. refl) (λ _ _ _. refl) piece b s
 
-pub work-free-bytes : (s : Sess) (v w reply piece : List ℕ)
-    → butWork (doneFeed (feedBytes s (lent v reply) piece)) ≡ butWork (doneFeed (feedBytes s (lent w reply) piece))
-work-free-bytes s v w reply piece =
+pub work-free-bytes : (s : Sess) (v w reply piece : List ℕ) (time : ℕ)
+    → butWork (doneFeed (feedBytes s (lent v reply) piece time)) ≡ butWork (doneFeed (feedBytes s (lent w reply) piece time))
+work-free-bytes s v w reply piece time =
     ap (λ (r : Fed Sess Event (List ℕ)). record { event = done (r .event); consumed = r .consumed; buffers = r .buffers; next = r .next })
-    (bytes-work-free s (lent v reply) piece ∙ sym (bytes-work-free s (lent w reply) piece))
+    (bytes-work-free s (lent v reply) piece time ∙ sym (bytes-work-free s (lent w reply) piece time))
 
-fed-work-free : (s : Sess) (v w reply piece : List ℕ) → length v ≡ length w → butWork (feedOf s (lent v reply) piece) ≡ butWork (feedOf s (lent w reply) piece)
+fed-work-free : (s : Sess) (v w reply piece : List ℕ) (time : ℕ) → length v ≡ length w
+    → butWork (feedOf s (lent v reply) piece time) ≡ butWork (feedOf s (lent w reply) piece time)
 unfolding feedOf decide
-fed-work-free s v w reply piece h = rw h (at (first (Acts.feedTestsOf s (lent w reply))))
+fed-work-free s v w reply piece time h = rw h (at (first (Acts.feedTestsOf s (lent w reply))))
   where
     at : (o : Option ℕ)
-        → butWork (decide o (Acts.refusedFeed s (lent v reply)) (doneFeed (feedBytes s (lent v reply) piece)))
-        ≡ butWork (decide o (Acts.refusedFeed s (lent w reply)) (doneFeed (feedBytes s (lent w reply) piece)))
-    at none = work-free-bytes s v w reply piece
+        → butWork (decide o (Acts.refusedFeed s (lent v reply)) (doneFeed (feedBytes s (lent v reply) piece time)))
+        ≡ butWork (decide o (Acts.refusedFeed s (lent w reply)) (doneFeed (feedBytes s (lent w reply) piece time)))
+    at none = work-free-bytes s v w reply piece time
     at (some n) = refl
 
 pub work-free : WorkFree
-work-free s v w reply piece h =
-    let r = feedOf s (lent v reply) piece in
-    let q = feedOf s (lent w reply) piece in
-    let e : butWork r ≡ butWork q = fed-work-free s v w reply piece h in
+work-free s v w reply piece time h =
+    let r = feedOf s (lent v reply) piece time in
+    let q = feedOf s (lent w reply) piece time in
+    let e : butWork r ≡ butWork q = fed-work-free s v w reply piece time h in
     let m = s .link .message in
     record {
       answer = e;
       bytes = dataPlaced s piece q;
-      first = untouched s (lent v reply) piece .work
+      first = untouched s (lent v reply) piece time .work
           ∙ ap (λ (r : Fed Sess (Outcome Event) (List ℕ)). sets v (place m) (drop (room m) (take (r .consumed) piece))) e;
-      second = untouched s (lent w reply) piece .work;
+      second = untouched s (lent w reply) piece time .work;
     }
 
 -- ## The other acts

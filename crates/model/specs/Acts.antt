@@ -21,6 +21,7 @@ use Rattle.transmit.specs.Part.{wireLength}
 use Rattle.pending.specs.Pending.{noTransfer, seqnumOf, tickets, found, Place, placeBy, ticketPlace, urbAt, withoutAt}
 use Rattle.pending.specs.declared.counts.Counts.{Counts}
 use Rattle.pending.specs.declared.urb.Urb.{Urb}
+use Rattle.ages.specs.Ages.{staleIn}
 use Rattle.limits.specs.Limits
 use Rattle.ground.specs.Tests.{Test, first, decide, pick}
 use Rattle.verdicts.specs.Verdicts
@@ -113,8 +114,8 @@ put s x b = record { work = dataPut (s .link .message) x (b .work); reply = b .r
 unfoldable pub writeReply : Sess → Event → Buffers → Buffers
 writeReply s e b = record { work = b .work; reply = over (replyTo s e) (b .reply) }
 
-abbrev pub feedBytes : Sess → Buffers → List ℕ → Fed Sess Event Buffers
-feedBytes s b piece = feed grow put judge after writeReply hungry isHungry s b piece
+abbrev pub feedBytes : Sess → Buffers → List ℕ → (time : ℕ) → Fed Sess Event Buffers
+feedBytes s b piece time = feed grow put (judge time) after writeReply hungry isHungry s b piece
 
 abbrev pub feedTestsOf : Sess → Buffers → List (Test ℕ)
 feedTestsOf s b = Verdicts.feedTests (closed s) (length (b .work)) (length (b .reply))
@@ -125,9 +126,9 @@ refusedFeed s b n = record { event = refused n; consumed = 0; buffers = b; next 
 abbrev pub doneFeed : Fed Sess Event Buffers → Fed Sess (Outcome Event) Buffers
 doneFeed r = record { event = done (r .event); consumed = r .consumed; buffers = r .buffers; next = r .next }
 
--- A feed: on a closed session first, then with buffers that are too small, else byte by byte.
-unfoldable pub feedOf : Sess → Buffers → List ℕ → Fed Sess (Outcome Event) Buffers
-feedOf s b piece = decide (first (feedTestsOf s b)) (refusedFeed s b) (doneFeed (feedBytes s b piece))
+-- A feed, given a time: on a closed session first, then with buffers that are too small, else byte by byte.
+unfoldable pub feedOf : Sess → Buffers → List ℕ → (time : ℕ) → Fed Sess (Outcome Event) Buffers
+feedOf s b piece time = decide (first (feedTestsOf s b)) (refusedFeed s b) (doneFeed (feedBytes s b piece time))
 
 -- ## Completing
 
@@ -187,6 +188,12 @@ completeOf s c =
       header = over (replyFor u sent (c .actual)) (c .header);
       next = settles (namedPlace s c) returned s;
     })
+
+-- ## Inquiring
+
+-- The tickets of the pending URBs whose age at a time is at least a limit, lowest first. It hands back no session: nothing changes.
+unfoldable pub staleOf : Sess → (time limit : ℕ) → Outcome (List ℕ)
+staleOf s time limit = pick (closed s) (refused Limits.SESSION-CLOSED) (done (tickets (staleIn time limit (s .pend))))
 
 -- ## Closing and opening
 

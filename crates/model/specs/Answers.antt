@@ -7,7 +7,7 @@ use Rattle.pending.specs.declared.urb.Urb.{Urb}
 use Rattle.verdicts.specs.declared.verdict.Fault.{Fault}
 
 -- An act is refused, with a number, or done, with what it answers then: a feed its event, a completion what is returned, a close the
--- tickets that it dropped.
+-- tickets that it dropped, an inquiry those that are stale.
 pub data Outcome (A : Type 0) : Type 0 where
   refused : (number : ℕ) → Outcome A
   done : A → Outcome A

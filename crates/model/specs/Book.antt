@@ -16,7 +16,7 @@ use Rattle.model.specs.Acts.{Buffers, Completion}
 -- ## Calls and answers
 
 pub data Call : Type 0 where
-  feed : (piece : List ℕ) → Buffers → Call
+  feed : (piece : List ℕ) → Buffers → (time : ℕ) → Call
   complete : Completion → Call
   close : Call
 

@@ -40,12 +40,12 @@ use Rattle.model.specs.Book.{pendingOf, count, countsOf, Pending, SomePe
 -- ## What the acts give
 
 abbrev pub entryOf : Sess → Call → Entry
-entryOf s (feed p lent) = let r = feedOf s lent p in fed p (r .event) (r .consumed)
+entryOf s (feed p lent time) = let r = feedOf s lent p time in fed p (r .event) (r .consumed)
 entryOf s (complete c) = completed (c .ticket) (completeOf s c .answer)
 entryOf s close = closing (closeOf s .answer)
 
 abbrev pub nextOf : Sess → Call → Sess
-nextOf s (feed p lent) = feedOf s lent p .next
+nextOf s (feed p lent time) = feedOf s lent p time .next
 nextOf s (complete c) = completeOf s c .next
 nextOf s close = closeOf s .next
 
@@ -119,9 +119,10 @@ RightRequest t is m (break f ts) = (length m ≡ Codes.OP-LEN) × Gives (request
 abbrev pub messageLen : List ℕ → ℕ
 messageLen h = let u = headerOf h .transfer in Codes.HEADER-LEN + cond (eqb (u .direction) Codes.DIR-OUT) (u .length) 0
 
--- The record of an accepted submit: a ticket, and every field "as the bytes consumed for it say".
-abbrev pub Carries : ℕ → Header → Urb → Type 0
-Carries ticket h u =
+-- The record of an accepted submit: a ticket; every field that it has from its message "as the bytes consumed for it say"; and its arrival
+-- "given with the feed that accepts it".
+abbrev pub Carries : (ticket time : ℕ) → Header → Urb → Type 0
+Carries ticket time h u =
     (u .ticket ≡ ticket)
     × (u .transfer .seqnum ≡ h .transfer .seqnum)
     × (u .transfer .direction ≡ h .transfer .direction)
@@ -132,6 +133,7 @@ Carries ticket h u =
     × (u .transfer .packets ≡ h .transfer .packets)
     × (u .transfer .interval ≡ h .transfer .interval)
     × (u .setup ≡ h .setup)
+    × (u .arrival ≡ time)
 
 -- What an unlink removes: the pending item that has the seqnum, and none only where there is none.
 abbrev pub Removes : List Item → ℕ → ℕ → Option ℕ → Type 0
@@ -142,33 +144,34 @@ Removes is q st (some t) = (st ≡ minus Codes.ECONNRESET) × ((u : Urb) × Pend
 abbrev pub Placed : List ℕ → Fault → Type 0
 Placed h f = f .number ≡ Limits.DIRTY-PADDING → FirstDirty h (f .at)
 
-abbrev pub RightMessage : ℕ → List Item → List ℕ → Event → Type 0
-RightMessage devid is m hungry =
+-- A message, with the devid of the device that is attached, in a feed that was given a time.
+abbrev pub RightMessage : (devid time : ℕ) → List Item → List ℕ → Event → Type 0
+RightMessage devid time is m hungry =
     (length m < Codes.HEADER-LEN)
     ⊎ ((Codes.HEADER-LEN ≤ length m) × Clear (headerRowsBy devid is (header m))
     × (headerOf (header m) .command ≡ Codes.CMD-SUBMIT) × (length m < messageLen (header m)))
-RightMessage devid is m list = ⊥
-RightMessage devid is m (import st) = ⊥
-RightMessage devid is m (submit u) =
+RightMessage devid time is m list = ⊥
+RightMessage devid time is m (import st) = ⊥
+RightMessage devid time is m (submit u) =
     (length m ≡ messageLen (header m))
     × Clear (headerRowsBy devid is (header m))
     × (headerOf (header m) .command ≡ Codes.CMD-SUBMIT)
     × Clear (submitRowsBy devid is (header m))
-    × (u ≡ urbOf (suc (length is)) (headerOf (header m)))
-    × Carries (suc (length is)) (headerOf (header m)) u
-RightMessage devid is m (answer q st) =
+    × (u ≡ urbOf (suc (length is)) time (headerOf (header m)))
+    × Carries (suc (length is)) time (headerOf (header m)) u
+RightMessage devid time is m (answer q st) =
     (length m ≡ messageLen (header m))
     × Clear (headerRowsBy devid is (header m))
     × (headerOf (header m) .command ≡ Codes.CMD-SUBMIT)
     × Gives (submitRowsBy devid is (header m)) st
     × (q ≡ headerOf (header m) .transfer .seqnum)
-RightMessage devid is m (unlink q st o) =
+RightMessage devid time is m (unlink q st o) =
     (length m ≡ Codes.HEADER-LEN)
     × Clear (headerRowsBy devid is (header m))
     × (headerOf (header m) .command ≡ Codes.CMD-UNLINK)
     × (q ≡ headerOf (header m) .transfer .seqnum)
     × Removes is (unlinkSeqnumOf (header m)) st o
-RightMessage devid is m (break f ts) =
+RightMessage devid time is m (break f ts) =
     (length m ≡ Codes.HEADER-LEN)
     × Gives (headerRowsBy devid is (header m)) f
     × (ts ≡ tickets (pendingOf is))
@@ -206,25 +209,28 @@ placeOf part = length part - Codes.HEADER-LEN
 
 -- ## What each call's answer is
 
-pub record RightFeed (s : Sess) (b : Book) (piece : List ℕ) (lent : Buffers) : Type 0 where
+pub record RightFeed (s : Sess) (b : Book) (piece : List ℕ) (lent : Buffers) (time : ℕ) : Type 0 where
   -- refused exactly by the table, with nothing consumed and nothing changed
-  pub refuses : (n : ℕ) → feedOf s lent piece .event ≡ refused n
-      → Gives (feedRowsBy b lent) n × (feedOf s lent piece .consumed ≡ 0) × (feedOf s lent piece .buffers ≡ lent) × (feedOf s lent piece .next ≡ s)
+  pub refuses : (n : ℕ) → feedOf s lent piece time .event ≡ refused n
+      → Gives (feedRowsBy b lent) n
+      × (feedOf s lent piece time .consumed ≡ 0)
+      × (feedOf s lent piece time .buffers ≡ lent)
+      × (feedOf s lent piece time .next ≡ s)
   -- else the event is right by the bytes consumed for its message
-  pub right : (e : Event) → feedOf s lent piece .event ≡ done e
+  pub right : (e : Event) → feedOf s lent piece time .event ≡ done e
       → Clear (feedRowsBy b lent)
-      × (let m = b .part ++ take (feedOf s lent piece .consumed) piece in
-      byPhase (eqb (s .link .phase) Limits.WAITING) (RightRequest (s .table) (b .items) m e) (RightMessage (s .link .devid) (b .items) m e))
+      × (let m = b .part ++ take (feedOf s lent piece time .consumed) piece in
+      byPhase (eqb (s .link .phase) Limits.WAITING) (RightRequest (s .table) (b .items) m e) (RightMessage (s .link .devid) time (b .items) m e))
   -- a hungry feed consumed all
-  pub all : feedOf s lent piece .event ≡ done hungry → feedOf s lent piece .consumed ≡ length piece
+  pub all : feedOf s lent piece time .event ≡ done hungry → feedOf s lent piece time .consumed ≡ length piece
   -- "A reply starts at 0 of the reply buffer; bytes past it don't change", and the answer gives its length
-  pub reply : let r = feedOf s lent piece in
+  pub reply : let r = feedOf s lent piece time in
       (bytes : List ℕ)
       × Replies (s .table) (b .part ++ take (r .consumed) piece) (r .event) bytes
       × (r .buffers .reply ≡ over bytes (lent .reply))
       × (written s piece r ≡ length bytes)
   -- the work buffer at exit: the data that this call consumed; "nothing else is written there"
-  pub work : let r = feedOf s lent piece in
+  pub work : let r = feedOf s lent piece time in
       r .buffers .work ≡ sets (lent .work) (placeOf (b .part)) (dataIn (b .part) (take (r .consumed) piece))
 
 -- The status sent: -121 exactly for a short read, that is a completion with status 0 and an actual length below the transfer's length, of a
@@ -256,7 +262,7 @@ pub record RightClose (s : Sess) (b : Book) : Type 0 where
   pub accepts : (ts : List ℕ) → closeOf s .answer ≡ done ts → Clear (closeRowsBy b) × (ts ≡ tickets (pendingOf (b .items)))
 
 abbrev pub Right : Sess → Book → Call → Type 0
-Right s b (feed p lent) = RightFeed s b p lent
+Right s b (feed p lent time) = RightFeed s b p lent time
 Right s b (complete c) = RightComplete s b c
 Right s b close = RightClose s b
 

@@ -70,7 +70,7 @@ abbrev pub RefusedIff : Type 0
 RefusedIff = (t : Table) (cs : List Call)
     → let s = sessionFrom t cs in
     let b = bookFrom t cs in
-    ((p : List ℕ) (lent : Buffers) → ByTable (feedRowsBy b lent) (feedOf s lent p .event))
+    ((p : List ℕ) (lent : Buffers) (time : ℕ) → ByTable (feedRowsBy b lent) (feedOf s lent p time .event))
     × ((c : Completion) → ByTable (completionRowsBy b c) (completeOf s c .answer))
     × ByTable (closeRowsBy b) (closeOf s .answer)
 
@@ -115,9 +115,9 @@ EndedTicket = (t : Table) (cs : List Call) (k : ℕ)
 
 -- A request that an unlink cancelled finishes late: its completion is refused, also where its seqnum is in use again.
 abbrev pub CancelledTicket : Type 0
-CancelledTicket = (t : Table) (cs later : List Call) (p : List ℕ) (lent : Buffers) (q st : ℕ) (c : Completion)
-    → feedOf (sessionFrom t cs) lent p .event ≡ done (unlink q st (some (c .ticket)))
-    → let calls = cs ++ (feed p lent ∷ later) in
+CancelledTicket = (t : Table) (cs later : List Call) (p : List ℕ) (lent : Buffers) (time q st : ℕ) (c : Completion)
+    → feedOf (sessionFrom t cs) lent p time .event ≡ done (unlink q st (some (c .ticket)))
+    → let calls = cs ++ (feed p lent time ∷ later) in
     RefusedLate (sessionFrom t calls) (bookFrom t calls) c
 
 -- ## Sending
@@ -168,10 +168,10 @@ WholeUnlink m = (headerOf (header m) .command ≡ Codes.CMD-UNLINK) × (length m
 -- A feed answers a whole submit m, the first of its piece, by the book and the devid: it is accepted exactly when no row of
 -- the two tables holds, it breaks the session exactly when a row of the first does, and is answered with a status exactly when
 -- only a row of the second does.
-pub record Verdict (devid : ℕ) (is : List Item) (m : List ℕ) (event : Outcome Event) (consumed : ℕ) : Type 0 where
+pub record Verdict (devid time : ℕ) (is : List Item) (m : List ℕ) (event : Outcome Event) (consumed : ℕ) : Type 0 where
   pub accepted : (u : Urb)
       → (event ≡ done (submit u))
-      ↔ (Clear (headerRowsBy devid is (header m)) × Clear (submitRowsBy devid is (header m)) × (u ≡ urbOf (suc (length is)) (headerOf (header m))))
+      ↔ (Clear (headerRowsBy devid is (header m)) × Clear (submitRowsBy devid is (header m)) × (u ≡ urbOf (suc (length is)) time (headerOf (header m))))
   pub broken : (f : Fault) (ts : List ℕ)
       → (event ≡ done (break f ts)) ↔ (Gives (headerRowsBy devid is (header m)) f × (ts ≡ tickets (pendingOf is)))
   pub answered : (q st : ℕ)
@@ -183,11 +183,11 @@ pub record Verdict (devid : ℕ) (is : List Item) (m : List ℕ) (event : Outcom
       ⊎ ((f : Fault) × (ts : List ℕ) × (event ≡ done (break f ts)) × (consumed ≡ Codes.HEADER-LEN)))
 
 abbrev pub AcceptIff : Type 0
-AcceptIff = (t : Table) (cs : List Call) (lent : Buffers) (m rest : List ℕ)
+AcceptIff = (t : Table) (cs : List Call) (lent : Buffers) (time : ℕ) (m rest : List ℕ)
     → let s = sessionFrom t cs in
     let b = bookFrom t cs in
-    let r = feedOf s lent (m ++ rest) in
-    Ready s b lent → WholeSubmit m → Verdict (s .link .devid) (b .items) m (r .event) (r .consumed)
+    let r = feedOf s lent (m ++ rest) time in
+    Ready s b lent → WholeSubmit m → Verdict (s .link .devid) time (b .items) m (r .event) (r .consumed)
 
 -- A feed answers a whole unlink m, the first of its piece: it breaks the session exactly when a row of the table holds, and is answered
 -- exactly when none does. Either way its 48 bytes are consumed.
@@ -198,17 +198,17 @@ pub record UnlinkVerdict (devid : ℕ) (is : List Item) (m : List ℕ) (event : 
   pub whole : consumed ≡ Codes.HEADER-LEN
 
 abbrev pub UnlinkIff : Type 0
-UnlinkIff = (t : Table) (cs : List Call) (lent : Buffers) (m rest : List ℕ)
+UnlinkIff = (t : Table) (cs : List Call) (lent : Buffers) (time : ℕ) (m rest : List ℕ)
     → let s = sessionFrom t cs in
     let b = bookFrom t cs in
-    let r = feedOf s lent (m ++ rest) in
+    let r = feedOf s lent (m ++ rest) time in
     Ready s b lent → WholeUnlink m → UnlinkVerdict (s .link .devid) (b .items) m (r .event) (r .consumed)
 
 -- A submit that is answered with a status leaves the session as it was, with no message in progress: no ticket is used up.
 abbrev pub AnsweredStays : Type 0
-AnsweredStays = (t : Table) (cs : List Call) (p : List ℕ) (lent : Buffers) (q st : ℕ)
+AnsweredStays = (t : Table) (cs : List Call) (p : List ℕ) (lent : Buffers) (time q st : ℕ)
     → let s = sessionFrom t cs in
-    feedOf s lent p .event ≡ done (answer q st) → feedOf s lent p .next ≡ between s
+    feedOf s lent p time .event ≡ done (answer q st) → feedOf s lent p time .next ≡ between s
 
 -- ## What a feed consumes
 
@@ -237,18 +237,18 @@ Reaches size test came more (done (break f ts)) k = UpTo test came more k
 
 -- Of the bytes q of the message in progress and a piece p.
 abbrev pub Consumption : Type 0
-Consumption = (t : Table) (cs : List Call) (lent : Buffers) (p : List ℕ)
+Consumption = (t : Table) (cs : List Call) (lent : Buffers) (p : List ℕ) (time : ℕ)
     → let s = sessionFrom t cs in
     let q = bookFrom t cs .part in
-    let r = feedOf s lent p in
+    let r = feedOf s lent p time in
     byPhase (eqb (s .link .phase) Limits.WAITING)
     (Reaches (requestSize (q ++ p)) Codes.OP-LEN (length q) (length p) (r .event) (r .consumed))
     (Reaches (messageSize (q ++ p)) Codes.HEADER-LEN (length q) (length p) (r .event) (r .consumed))
 
 -- An empty piece is refused by the table, or else consumed; either way nothing changes.
 abbrev pub EmptyPiece : Type 0
-EmptyPiece = (t : Table) (cs : List Call) (lent : Buffers)
+EmptyPiece = (t : Table) (cs : List Call) (lent : Buffers) (time : ℕ)
     → let s = sessionFrom t cs in
     let b = bookFrom t cs in
-    ((n : ℕ) × Gives (feedRowsBy b lent) n × (feedOf s lent [] ≡ refusedFeed s lent n))
-    ⊎ (Clear (feedRowsBy b lent) × (feedOf s lent [] ≡ record { event = done hungry; consumed = 0; buffers = lent; next = s }))
+    ((n : ℕ) × Gives (feedRowsBy b lent) n × (feedOf s lent [] time ≡ refusedFeed s lent n))
+    ⊎ (Clear (feedRowsBy b lent) × (feedOf s lent [] time ≡ record { event = done hungry; consumed = 0; buffers = lent; next = s }))

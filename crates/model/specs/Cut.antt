@@ -2,7 +2,7 @@
 use Prim.Native.Nat.{ℕ, _≤_, _<_}
 use mathlib.Core.Path.{_≡_}
 use mathlib.Core.Bool.{false}
-use mathlib.Core.List.{List, [], _∷_, _++_, flatten}
+use mathlib.Core.List.{List, [], _∷_, _++_, map, flatten}
 use mathlib.Core.Option.{Option}
 use lib.ListN.{length, take, drop}
 use lib.Seq.{sets}
@@ -12,7 +12,7 @@ use Rattle.messages.specs.Messages.{bodyLen}
 use Rattle.pending.specs.declared.urb.Urb.{Urb}
 use Rattle.limits.specs.Limits
 use Rattle.verdicts.specs.declared.verdict.Fault.{Fault}
-use Rattle.model.specs.Machine.{Fed, Ran, drainAll}
+use Rattle.model.specs.Machine.{Fed, Ran, Piece, drainAll}
 use Rattle.model.specs.State.{Message, partly, headed, Sess, closed, headerIn, room, place}
 use Rattle.model.specs.Answers.{Outcome, refused, done, Event, hungry, list, submit, unlink, break, saysNothing}
 use Rattle.model.specs.Judging.{grow}
@@ -28,18 +28,18 @@ Feeding = Fed Sess (Outcome Event) Buffers
 
 -- ## What a feed consumes
 
-pub record Consuming (s : Sess) (b : Buffers) (piece : List ℕ) : Type 0 where
+pub record Consuming (s : Sess) (b : Buffers) (piece : List ℕ) (time : ℕ) : Type 0 where
   -- at most the piece, all of it by a feed that is hungry, at least one byte if there is one
-  pub most : feedOf s b piece .consumed ≤ length piece
-  pub all : feedOf s b piece .event ≡ done hungry → feedOf s b piece .consumed ≡ length piece
-  pub some : 0 < length piece → 0 < feedOf s b piece .consumed
+  pub most : feedOf s b piece time .consumed ≤ length piece
+  pub all : feedOf s b piece time .event ≡ done hungry → feedOf s b piece time .consumed ≡ length piece
+  pub some : 0 < length piece → 0 < feedOf s b piece time .consumed
   -- an empty piece is answered hungry, and nothing changes
-  pub none : piece ≡ [] → feedOf s b piece ≡ record { event = done hungry; consumed = 0; buffers = b; next = s }
+  pub none : piece ≡ [] → feedOf s b piece time ≡ record { event = done hungry; consumed = 0; buffers = b; next = s }
   -- what is said within the first bytes, the others don't change
-  pub within : (rest : List ℕ) → saysNothing (feedOf s b piece .event) ≡ false → feedOf s b (piece ++ rest) ≡ feedOf s b piece
+  pub within : (rest : List ℕ) → saysNothing (feedOf s b piece time .event) ≡ false → feedOf s b (piece ++ rest) time ≡ feedOf s b piece time
 
 abbrev pub Consumes : Type 0
-Consumes = (s : Sess) (b : Buffers) (piece : List ℕ) → closed s ≡ false → Enough b → Consuming s b piece
+Consumes = (s : Sess) (b : Buffers) (piece : List ℕ) (time : ℕ) → closed s ≡ false → Enough b → Consuming s b piece time
 
 -- ## What a feed writes
 
@@ -74,15 +74,28 @@ dataPlaced s piece r = drop (room (s .link .message)) (take (r .consumed) piece)
 
 -- ## Cutting
 
--- "the unread rest of a piece is fed next until used up, and nothing is fed once it is closed". Of every answer but hungry
--- the caller keeps the event and both buffers as they stood then; the reply is `replied`, at the front of the reply buffer.
-unfoldable pub drainedOf : Sess → Buffers → List (List ℕ) → Ran Sess (Outcome Event) Buffers
+-- Pieces of the stream, each with the time that its feeds are given; all their bytes.
+abbrev pub Timed : Type 0
+Timed = List (Piece ℕ ℕ)
+
+abbrev pub allBytes : Timed → List ℕ
+allBytes ps = flatten (map (λ p. p .symbols) ps)
+
+-- "the unread rest of a piece is fed next until used up, and nothing is fed once it is closed". Of every answer but hungry the caller keeps
+-- the event, both buffers as they stood then and the time; the reply is `replied`, at the front of the reply buffer.
+unfoldable pub drainedOf : Sess → Buffers → Timed → Ran Sess (Outcome Event) ℕ Buffers
 drainedOf s b ps = drainAll feedOf saysNothing closed s b ps
 
--- Pieces that make up the same bytes, empty ones among them, give the same: the answers with their buffers, the sum of bytes
--- consumed, the buffers and the session at the end. The session is any, within a message too; a closed one is fed nothing.
+-- Each such answer comes with the last byte consumed for its message: the times given there.
+abbrev pub timesOf : {Ev : Type 0} → Ran Sess Ev ℕ Buffers → List ℕ
+timesOf r = map (λ n. n .time) (r .notes)
+
+-- Pieces that make up the same bytes, empty ones among them, and "give the same time with each message's last byte", give the same: the
+-- answers with their buffers, the sum of bytes consumed, the buffers and the session at the end. The session is any, within a message too;
+-- a closed one is fed nothing.
 abbrev pub Cutting : Type 0
-Cutting = (s : Sess) (b : Buffers) (ps qs : List (List ℕ)) → Enough b → flatten ps ≡ flatten qs → drainedOf s b ps ≡ drainedOf s b qs
+Cutting = (s : Sess) (b : Buffers) (ps qs : Timed) → Enough b → allBytes ps ≡ allBytes qs
+    → timesOf (drainedOf s b ps) ≡ timesOf (drainedOf s b qs) → drainedOf s b ps ≡ drainedOf s b qs
 
 -- The same where the caller keeps each reply by itself, and its length, too.
 pub record Answer : Type 0 where
@@ -99,16 +112,17 @@ answer s piece r =
       next = r .next;
     }
 
-unfoldable pub answersOf : Sess → Buffers → List (List ℕ) → Ran Sess Answer Buffers
-answersOf s b ps = drainAll (λ s b piece. answer s piece (feedOf s b piece)) (λ a. saysNothing (a .event)) closed s b ps
+unfoldable pub answersOf : Sess → Buffers → Timed → Ran Sess Answer ℕ Buffers
+answersOf s b ps = drainAll (λ s b piece time. answer s piece (feedOf s b piece time)) (λ a. saysNothing (a .event)) closed s b ps
 
 abbrev pub CuttingAnswers : Type 0
-CuttingAnswers = (s : Sess) (b : Buffers) (ps qs : List (List ℕ)) → Enough b → flatten ps ≡ flatten qs → answersOf s b ps ≡ answersOf s b qs
+CuttingAnswers = (s : Sess) (b : Buffers) (ps qs : Timed) → Enough b → allBytes ps ≡ allBytes qs
+    → timesOf (answersOf s b ps) ≡ timesOf (answersOf s b qs) → answersOf s b ps ≡ answersOf s b qs
 
 -- All the bytes are consumed, but by a session that is closed in the end.
 abbrev pub Draining : Type 0
-Draining = (s : Sess) (b : Buffers) (ps : List (List ℕ)) → Enough b
-    → closed (drainedOf s b ps .next) ≡ false → drainedOf s b ps .consumed ≡ length (flatten ps)
+Draining = (s : Sess) (b : Buffers) (ps : Timed) → Enough b
+    → closed (drainedOf s b ps .next) ≡ false → drainedOf s b ps .consumed ≡ length (allBytes ps)
 
 -- ## What a feed leaves as it was
 
@@ -135,7 +149,7 @@ pub record Leaving (s : Sess) (b : Buffers) (piece : List ℕ) (r : Feeding) : T
   pub dataless : Heading (s .link .message) → bodyLen (headerIn (taken s piece r .link .message)) ≡ 0 → r .buffers .work ≡ b .work
 
 abbrev pub Untouched : Type 0
-Untouched = (s : Sess) (b : Buffers) (piece : List ℕ) → Leaving s b piece (feedOf s b piece)
+Untouched = (s : Sess) (b : Buffers) (piece : List ℕ) (time : ℕ) → Leaving s b piece (feedOf s b piece time)
 
 -- An answer without its work buffer.
 abbrev pub butWork : Feeding → Fed Sess (Outcome Event) (List ℕ)
@@ -153,8 +167,8 @@ pub record Alike (at : ℕ) (v w : List ℕ) (r q : Feeding) : Type 0 where
   pub second : q .buffers .work ≡ sets w at bytes
 
 abbrev pub WorkFree : Type 0
-WorkFree = (s : Sess) (v w reply piece : List ℕ) → length v ≡ length w
-    → Alike (place (s .link .message)) v w (feedOf s (lent v reply) piece) (feedOf s (lent w reply) piece)
+WorkFree = (s : Sess) (v w reply piece : List ℕ) (time : ℕ) → length v ≡ length w
+    → Alike (place (s .link .message)) v w (feedOf s (lent v reply) piece time) (feedOf s (lent w reply) piece time)
 
 -- The other acts: a refusal changes nothing, and a completion writes only the header buffer's first bytes.
 pub record Keeping (s : Sess) (c : Completion) : Type 0 where

@@ -1,4 +1,4 @@
--- Which event it is when a byte has just come (PROTOCOL.md, 4 to 6).
+-- Which event it is when a byte has just come, in a feed that was given a time (PROTOCOL.md, 4 to 6).
 use Prim.Native.Nat.{ℕ, suc, _+_}
 use mathlib.Core.List.{List, [], _∷_, _++_}
 use mathlib.Core.Option.{Option, none, some}
@@ -34,9 +34,9 @@ grow s x = withLink (withMessage (grownBy (s .link .message) x) (s .link)) s
 
 -- ## Messages
 
--- The record of a submit under a ticket.
-abbrev pub urbOf : ℕ → Header → Urb
-urbOf t h = record { ticket = t; transfer = h .transfer; setup = h .setup }
+-- The record of a submit under a ticket, with the time given with the feed that takes its last byte.
+abbrev pub urbOf : (ticket time : ℕ) → Header → Urb
+urbOf ticket time h = record { ticket = ticket; transfer = h .transfer; setup = h .setup; arrival = time }
 
 -- A break lists the tickets of all that is pending.
 abbrev pub breaks : Sess → Fault → Event
@@ -46,14 +46,14 @@ abbrev pub submitTestsOf : Header → Sess → List (Test ℕ)
 submitTestsOf h s = Verdicts.submitTests h (s .link .devid) (length (s .pend)) (s .link .counts .accepted)
 
 -- The last byte of a submit is in.
-unfoldable pub submitted : Sess → Header → Event
-submitted s h =
+unfoldable pub submitted : ℕ → Sess → Header → Event
+submitted time s h =
     decide (first (submitTestsOf h s)) (answer (h .transfer .seqnum))
-    (submit (urbOf (suc (s .link .counts .accepted)) h))
+    (submit (urbOf (suc (s .link .counts .accepted)) time h))
 
 -- A submit whose header passed waits for its body.
-unfoldable pub submitting : Sess → Header → ℕ → Event
-submitting s h body = pick (ltb body (bodyLen h)) hungry (submitted s h)
+unfoldable pub submitting : ℕ → Sess → Header → ℕ → Event
+submitting time s h body = pick (ltb body (bodyLen h)) hungry (submitted time s h)
 
 -- "-104 and removes the URB exactly if unlink_seqnum is pending; otherwise 0"
 abbrev pub unlinks : ℕ → Option Urb → Event
@@ -65,15 +65,15 @@ abbrev pub headerTestsOf : Header → (devid : ℕ) → List Urb → List (Test 
 headerTestsOf h devid pend = Verdicts.headerTests h devid (found (findBy seqnumOf (h .transfer .seqnum) pend))
 
 -- The 48th byte of a message is in.
-unfoldable pub wholeHeader : Sess → Header → Event
-wholeHeader s h =
+unfoldable pub wholeHeader : ℕ → Sess → Header → Event
+wholeHeader time s h =
     decide (first (headerTestsOf h (s .link .devid) (s .pend))) (breaks s)
-    (pick (eqb (h .command) Codes.CMD-SUBMIT) (submitting s h 0)
+    (pick (eqb (h .command) Codes.CMD-SUBMIT) (submitting time s h 0)
     (unlinks (h .transfer .seqnum) (findBy seqnumOf (unlinkSeqnum h) (s .pend))))
 
-unfoldable pub message : Sess → Message → Event
-message s (partly bytes) = hungry
-message s (headed h body) = pick (eqb body 0) (wholeHeader s h) (submitting s h body)
+unfoldable pub message : ℕ → Sess → Message → Event
+message time s (partly bytes) = hungry
+message time s (headed h body) = pick (eqb body 0) (wholeHeader time s h) (submitting time s h body)
 
 -- ## Requests
 
@@ -100,5 +100,5 @@ request s (partly m) =
     (imports (lookedUp s))))
 request s (headed h body) = imports (lookedUp s)
 
-unfoldable pub judge : Sess → Event
-judge s = pick (eqb (s .link .phase) Limits.WAITING) (request s (s .link .message)) (message s (s .link .message))
+unfoldable pub judge : ℕ → Sess → Event
+judge time s = pick (eqb (s .link .phase) Limits.WAITING) (request s (s .link .message)) (message time s (s .link .message))

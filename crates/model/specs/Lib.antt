@@ -8,3 +8,5 @@ pub mod Cut
 pub mod Book
 pub mod Claims
 pub mod Corollaries
+pub mod Stale
+pub mod Times

@@ -29,11 +29,11 @@ noTransfer = record { seqnum = 0; direction = 0; ep = 0; flags = 0; length = 0; 
 
 -- What is read past the end of a list.
 abbrev pub noUrb : Urb
-noUrb = record { ticket = 0; transfer = noTransfer; setup = [] }
+noUrb = record { ticket = 0; transfer = noTransfer; setup = []; arrival = 0 }
 
 -- What stands in a free place of the array.
 abbrev pub blank : Urb
-blank = record { ticket = 0; transfer = noTransfer; setup = replicate SETUP-LEN 0 }
+blank = record { ticket = 0; transfer = noTransfer; setup = replicate SETUP-LEN 0; arrival = 0 }
 
 -- ## A list of URBs
 

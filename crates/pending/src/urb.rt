@@ -1,15 +1,17 @@
-// A pending URB: what a submit said, under its ticket.
+// A pending URB: what a submit said, under its ticket, and when it came.
 use messages::message::Transfer;
 use wire::codes::SETUP_LEN;
 ghost use mathlib.Core.Path.{_≡_};
 ghost use Rattle.pending.specs.Pending.{noTransfer, blank};
 
-// The ticket is the rules' word (PROTOCOL.md, 2) for the number, counted from 1, by which the device side knows a URB.
+// The ticket is the rules' word (PROTOCOL.md, 2) for the number, counted from 1, by which the device side knows a URB. The arrival is the
+// time, in milliseconds that wrap, given with the feed that accepted it.
 #[repr(C)]
 pub struct Urb {
     pub ticket: u64,
     pub transfer: Transfer,
     pub setup: [u8; SETUP_LEN],
+    pub arrival: u32,
 }
 
 pub(crate) fn no_transfer() -> Transfer
@@ -36,6 +38,7 @@ impl Urb {
             ticket: 0,
             transfer: no_transfer(),
             setup: [0u8; SETUP_LEN],
+            arrival: 0,
         }
     }
 }

@@ -74,7 +74,7 @@ consumed-up at consumed size false h e = ne-eqb (at + consumed) size (λ p. eqb-
 
 module _ (traced : Bool) (bytes : List ℕ) (whole : Play) (at turn size : ℕ) (s : Sess) (b : Buffers) (entry out exit : List ℕ) (len len' : ℕ) where
   abbrev result : Result
-  result = fedOf s b (drop at bytes)
+  result = fedOf s b (drop at bytes) 0
 
   abbrev stops : Bool
   stops = endsStream (result .event) || eqb (result .consumed) (length (drop at bytes))
@@ -120,9 +120,9 @@ module _ (traced : Bool) (bytes : List ℕ) (whole : Play) (at turn size : ℕ) 
       rw (t .next, t .buffers, t .consumed) (turned z h l turn' (rw (t .last, t .consumed) at e) g more)
 
 -- a feed consumes at most the piece
-pub consumed-within : (s : Sess) (b : Buffers) (piece : List ℕ) → fedOf s b piece .consumed ≤ length piece
+pub consumed-within : (s : Sess) (b : Buffers) (piece : List ℕ) → fedOf s b piece 0 .consumed ≤ length piece
 unfolding fedOf
-consumed-within s b piece = consumed-most s b piece
+consumed-within s b piece = consumed-most s b piece 0
 
 -- nothing was fed yet
 pub unbegun : (traced : Bool) (n : ℕ) (s : Sess) (b : Buffers) (bytes out : List ℕ)

@@ -48,11 +48,11 @@ abbrev pub followedBy : Bool → Result → Play → Play
 followedBy traced r q = record { text = resultText traced r ++ q .text; next = q .next; buffers = q .buffers }
 
 -- "fed until used up or closed, the rest dropped; an empty one is never fed; on a session already closed any other is fed
--- once". (Each feed but a refused one consumes a byte at least, so as many turns as there are bytes are enough.)
+-- once"; each feed is given the time 0. (Each feed but a refused one consumes a byte at least, so as many turns as there are bytes are enough.)
 unfoldable pub playStream : Bool → ℕ → Sess → Buffers → List ℕ → Play
 playStream traced zero s b bytes = record { text = []; next = s; buffers = b }
 playStream traced (suc turns) s b bytes =
-    let r = fedOf s b bytes in
+    let r = fedOf s b bytes 0 in
     cond (endsStream (r .event) || eqb (r .consumed) (length bytes))
     (alone traced r)
     (followedBy traced r (playStream traced turns (r .next) (r .buffers) (drop (r .consumed) bytes)))

@@ -25,7 +25,7 @@ fn is_end(event: Event) -> bool
         Event::Hungry => false,
         Event::List => true,
         Event::Import(status) => status != 0,
-        Event::Submit(_, _) => false,
+        Event::Submit(_, _, _) => false,
         Event::Answer(_, _) => false,
         Event::Unlink(_, _, _) => false,
         Event::Break(_) => true,
@@ -33,7 +33,7 @@ fn is_end(event: Event) -> bool
     }
 }
 
-// One feed: the next session, the bytes consumed, whether nothing more is fed, and how many bytes of lines were put.
+// One feed, at time 0: the next session, the bytes consumed, whether nothing more is fed, and how many bytes of lines were put.
 pub struct Told {
     pub session: Session,
     pub consumed: usize,
@@ -50,10 +50,10 @@ fn feed_once(
     out: &mut [u8],
 ) -> Told
     ensures { λ r.
-        ⌜ Tells traced r (fedOf (viewOf session) (lent (now (work .entry)) (now (reply .entry))) (now (piece .entry)))
+        ⌜ Tells traced r (fedOf (viewOf session) (lent (now (work .entry)) (now (reply .entry))) (now (piece .entry)) 0)
         (lent (now (work .exit)) (now (reply .exit))) (now (out .entry)) (now (out .exit)) ⌝ }
 {
-    let fed = session.feed(piece, work, reply);
+    let fed = session.feed(piece, work, reply, 0);
     let answer = fed.answer;
     let next = fed.session;
     let event = answer.event;

@@ -13,6 +13,7 @@ use traces::trace_record;
 use traces::trace_removed;
 use wire::codes::DIR_OUT;
 use wire::codes::SETUP_LEN;
+ghost use Prim.Native.Nat.{ℕ};
 ghost use mathlib.Core.Path.{_≡_};
 ghost use lib.ListN.{take};
 ghost use Rattle.pending.specs.declared.list.Tickets.{Tickets};
@@ -39,7 +40,7 @@ fn data_len(direction: u32, length: u32) -> usize
     0
 }
 
-// What a trace adds for an accepted submit: its record, and its data.
+// What a trace adds for an accepted submit: its record, which shows no arrival, and its data.
 fn put_submit(
     ticket: u64,
     u: Transfer,
@@ -48,7 +49,9 @@ fn put_submit(
     out: &mut [u8],
 ) -> usize
     ensures { λ n.
-        ⌜ Puts (submitTraces (record { ticket = ticket; transfer = u; setup = setup }) (now (work .entry))) (now (out .entry)) (now (out .exit)) n ⌝ }
+        ⌜ ((arrival : ℕ)
+        → Puts (submitTraces (record { ticket = ticket; transfer = u; setup = setup; arrival = arrival }) (now (work .entry)))
+        (now (out .entry)) (now (out .exit)) n) ⌝ }
 {
     let n = trace_record(ticket, u, setup, out);
     let size = data_len(u.direction, u.length);
@@ -63,7 +66,7 @@ fn put_beside(a: Answer, work: &[u8], out: &mut [u8]) -> usize
     let event = a.event;
     let setup = a.setup;
     match event {
-        Event::Submit(ticket, u) => put_submit(ticket, u, setup, work, out),
+        Event::Submit(ticket, _, u) => put_submit(ticket, u, setup, work, out),
         Event::Unlink(_, _, t) => trace_removed(t, out),
         Event::Hungry => 0,
         Event::List => 0,

@@ -6,12 +6,14 @@ pub use events::answer::Answer;
 pub use events::answer::Closing;
 pub use events::answer::Completion;
 pub use events::answer::Event;
+pub use events::answer::Inquiry;
 pub use events::answer::Opening;
 pub use events::answer::Removed;
 pub use pending::counts::Numbers;
 pub use session::answer::Closed;
 pub use session::answer::Completed;
 pub use session::answer::Fed;
+pub use session::answer::Inquired;
 pub use session::answer::Opened;
 pub use session::state::Session;
 

@@ -55,40 +55,40 @@ module _ (s : Session) (k : Link) (l : Pending) (c : Change) (e : l ≡ changed 
 -- ## A feed
 
 -- the plan of a message, and that of a request
-module _ (s : Session) (piece : List ℕ) (b : Buffers) (h : Arrays (s .link) (s .pending)) where
+module _ (s : Session) (piece : List ℕ) (b : Buffers) (time : ℕ) (h : Arrays (s .link) (s .pending)) where
   pub message-planned : (a : Asked) (y : Look) (r : Plan) → (s .link .phase ≡ Limits.WAITING → ⊥)
       → a ≡ askOf (s .link) piece
       → y ≡ lookFor (listOf (s .pending)) (a .key)
-      → r ≡ messagePlan (s .link) (s .pending .count) a y (length piece) (length (b .work)) (length (b .reply))
-      → Composed r (replyBytes (r .reply)) (s .table) (s .link) (s .pending) piece b
+      → r ≡ messagePlan (s .link) (s .pending .count) a y (length piece) (length (b .work)) (length (b .reply)) time
+      → Composed r (replyBytes (r .reply)) (s .table) (s .link) (s .pending) piece b time
   message-planned a y r w e f g =
-      let h′ = g ∙ planned-by (s .link) (s .pending) piece (length (b .work)) (length (b .reply)) a y e f in
-      subst (λ (z : Plan). Composed z (replyBytes (z .reply)) (s .table) (s .link) (s .pending) piece b) (sym h′)
-      (message-composed (s .table) (s .link) (s .pending) piece b h w)
+      let h′ = g ∙ planned-by (s .link) (s .pending) piece (length (b .work)) (length (b .reply)) time a y e f in
+      subst (λ (z : Plan). Composed z (replyBytes (z .reply)) (s .table) (s .link) (s .pending) piece b time) (sym h′)
+      (message-composed (s .table) (s .link) (s .pending) piece b time h w)
 
   pub request-planned : (r : RequestPlan) → length (s .table .devices) ≡ Limits.MAX-DEVICES → s .link .phase ≡ Limits.WAITING
       → r ≡ requestPlan (s .table) (s .link) (s .pending .count) piece (length (b .work)) (length (b .reply))
-      → Composed (r .plan) (requestBytes (s .table) (r .reply)) (s .table) (s .link) (s .pending) piece b
+      → Composed (r .plan) (requestBytes (s .table) (r .reply)) (s .table) (s .link) (s .pending) piece b time
   request-planned r d w g =
-      subst (λ (z : RequestPlan). Composed (z .plan) (requestBytes (s .table) (z .reply)) (s .table) (s .link) (s .pending) piece b) (sym g)
-      (request-composed (s .table) (s .link) (s .pending) piece b h d w)
+      subst (λ (z : RequestPlan). Composed (z .plan) (requestBytes (s .table) (z .reply)) (s .table) (s .link) (s .pending) piece b time) (sym g)
+      (request-composed (s .table) (s .link) (s .pending) piece b time h d w)
 
 -- what a plan leaves when it is carried out on the list and on the buffers
-pub feeds-by : (s : Session) (piece : List ℕ) (b exit : Buffers) (q : Plan) (bytes : List ℕ) (l : Pending) (ts : Tickets) (n : ℕ)
+pub feeds-by : (s : Session) (piece : List ℕ) (b exit : Buffers) (time : ℕ) (q : Plan) (bytes : List ℕ) (l : Pending) (ts : Tickets) (n : ℕ)
     → Whole (s .pending)
-    → Composed q bytes (s .table) (s .link) (s .pending) piece b
+    → Composed q bytes (s .table) (s .link) (s .pending) piece b time
     → l ≡ changed (s .pending) (q .change)
     → ts ≡ ticketsDropped (s .pending) (q .change)
     → exit .work ≡ sets (b .work) (q .body) (dataOf q piece)
     → Wrote bytes (b .reply) (exit .reply) n
     → length bytes ≤ Limits.REPLY-LEN
-    → Feeds s piece b exit
+    → Feeds s piece b exit time
     (record {
       session = record { table = s .table; link = q .link; pending = l };
       answer = record { event = q .event; consumed = q .consumed; length = n; setup = q .setup };
       dropped = ts;
     })
-feeds-by s piece b exit q bytes l ts n w k e d c wrote small =
+feeds-by s piece b exit time q bytes l ts n w k e d c wrote small =
     let room = k .takes small in
     record {
       said =

@@ -1,5 +1,6 @@
 -- Why the code is what the definitions say.
 pub mod Opening
+pub mod Inquiring
 pub mod Writing
 pub mod Planning
 pub mod Carrying

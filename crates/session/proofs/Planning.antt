@@ -13,8 +13,8 @@ use Rattle.feeding.specs.Feeding.{feedPlan}
 use Rattle.feeding.specs.Planning.{messagePlan}
 use Rattle.feeding.specs.declared.ask.Asked.{Asked}
 
-pub planned-by : (k : Link) (l : Pending) (piece : List ℕ) (work reply : ℕ) (a : Asked) (y : Look) → a ≡ askOf k piece → y ≡ lookFor (listOf l) (a .key)
-    → messagePlan k (l .count) a y (length piece) work reply ≡ feedPlan k l piece work reply
-planned-by k l piece work reply a y e f =
+pub planned-by : (k : Link) (l : Pending) (piece : List ℕ) (work reply time : ℕ) (a : Asked) (y : Look) → a ≡ askOf k piece → y ≡ lookFor (listOf l) (a .key)
+    → messagePlan k (l .count) a y (length piece) work reply time ≡ feedPlan k l piece work reply time
+planned-by k l piece work reply time a y e f =
     let g : y ≡ lookFor (listOf l) (askOf k piece .key) = f ∙ ap (λ (z : Asked). lookFor (listOf l) (z .key)) e in
-    λ i. messagePlan k (l .count) (e i) (g i) (length piece) work reply
+    λ i. messagePlan k (l .count) (e i) (g i) (length piece) work reply time

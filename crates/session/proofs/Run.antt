@@ -10,16 +10,18 @@ use Rattle.pending.specs.declared.list.Tickets.{Tickets}
 use Rattle.limits.specs.Limits
 use Rattle.model.specs.State.{Sess}
 use Rattle.model.specs.Answers.{Outcome, refused, done, Event}
-use Rattle.model.specs.Acts.{Complete, Close, feedOf, closeOf, openOf}
+use Rattle.model.specs.Acts.{Complete, Close, feedOf, closeOf, openOf, staleOf}
 use Rattle.model.specs.Cut.{Feeding}
 use Rattle.model.specs.Book.{Entry, fed, completed, closing, Book, opened, keep, pendingOf}
 use Rattle.model.specs.Claims.{entryOf, nextOf, Holds, Right, RightRequest, RightMessage, byPhase}
-use Rattle.model.specs.Corollaries.{sessionAfter, bookAfter}
+use Rattle.model.specs.Corollaries.{sessionAfter, bookAfter, bookFrom}
+use Rattle.model.specs.Stale.{RightInquiry}
 use Rattle.model.proofs.Runs.{every-run}
+use Rattle.model.proofs.Stale.{stale-listed}
 use Rattle.model.proofs.Untouched.{untouched, keeps}
 use Rattle.links.proofs.Tidy.{one-struct}
 use Rattle.events.specs.Plans.{Result}
-use Rattle.events.specs.Answers.{openAnswer, eventOf, completionOf, closingOf, ticketsOf, droppedBy, droppedByClose}
+use Rattle.events.specs.Answers.{openAnswer, eventOf, completionOf, closingOf, inquiryOf, ticketsOf, droppedBy, listedBy}
 use Rattle.events.specs.declared.answer.Event.{Event as Case}
 use Rattle.events.specs.declared.answer.Event.the-variants.{Hungry, List as Listed, Import, Submit, Answer as Answered, Unlink, Break, Refused}
 use Rattle.events.specs.declared.answer.Completion.{Completion}
@@ -29,52 +31,52 @@ use Rattle.events.specs.declared.answer.Closing.the-variants.{End, Refused as C
 use Rattle.feeding.specs.Feeding.{fedOf}
 use Rattle.session.specs.Views.{partsOf, viewOf, Tidy}
 use Rattle.session.specs.Run.{Act, feeds, completes, closes, callOf, entryBy, nextBy, Meets, Run, lastOf, kept, isReady, besideFeed, besideClose, Beside}
-use Rattle.session.specs.Run.{Lists, CodeRun, SameStruct, CodeRefuses}
+use Rattle.session.specs.Run.{Lists, CodeRun, CodeInquires, SameStruct, CodeRefuses}
 use Rattle.session.specs.declared.state.Session.{Session}
 
 -- ## One act
 
 meets : (s : Session) (a : Act) → Meets s a → (entryBy a ≡ entryOf (viewOf s) (callOf a)) × (viewOf (nextBy a) ≡ nextOf (viewOf s) (callOf a))
 unfolding fedOf
-meets s (feeds piece entry exit r) h = ((λ i. fed piece (h .said i .event) (h .said i .consumed)), ap (λ (x : Result). x .next) (h .said))
+meets s (feeds piece entry exit time r) h = ((λ i. fed piece (h .said i .event) (h .said i .consumed)), ap (λ (x : Result). x .next) (h .said))
 meets s (completes c header r) h = ((λ i. completed (c .ticket) (h .said i .answer)), ap (λ (x : Complete). x .next) (h .said))
 meets s (closes r) h = ((λ i. closing (h .said i .answer)), ap (λ (x : Close). x .next) (h .said))
 
 tidies : (s : Session) (a : Act) → Meets s a → Tidy s → Tidy (nextBy a)
-tidies s (feeds piece entry exit r) h = h .tidy
+tidies s (feeds piece entry exit time r) h = h .tidy
 tidies s (completes c header r) h = h .tidy
 tidies s (closes r) h = h .tidy
 
 -- ## The tickets beside an answer
 
 -- an event that is right by the book drops all that is pending there, or nothing
-fed-tickets : (c : Bool) (t : Table) (devid : ℕ) (b : Book) (m : List ℕ) (o : Outcome Event)
-    → ((e : Event) → o ≡ done e → byPhase c (RightRequest t (b .items) m e) (RightMessage devid (b .items) m e)) → ticketsOf (droppedBy o) ≡ besideFeed b o
-fed-tickets c t devid b m (refused n) h = refl
-fed-tickets c t devid b m (done Event.hungry) h = refl
-fed-tickets c t devid b m (done Event.list) h = refl
-fed-tickets c t devid b m (done (Event.import st)) h = refl
-fed-tickets c t devid b m (done (Event.submit u)) h = refl
-fed-tickets c t devid b m (done (Event.answer q st)) h = refl
-fed-tickets c t devid b m (done (Event.unlink q st r)) h = refl
-fed-tickets c t devid b m (done (Event.break f ts)) h = ap ticketsOf (broken c (h (Event.break f ts) refl))
+fed-tickets : (c : Bool) (t : Table) (devid time : ℕ) (b : Book) (m : List ℕ) (o : Outcome Event)
+    → ((e : Event) → o ≡ done e → byPhase c (RightRequest t (b .items) m e) (RightMessage devid time (b .items) m e)) → ticketsOf (droppedBy o) ≡ besideFeed b o
+fed-tickets c t devid time b m (refused n) h = refl
+fed-tickets c t devid time b m (done Event.hungry) h = refl
+fed-tickets c t devid time b m (done Event.list) h = refl
+fed-tickets c t devid time b m (done (Event.import st)) h = refl
+fed-tickets c t devid time b m (done (Event.submit u)) h = refl
+fed-tickets c t devid time b m (done (Event.answer q st)) h = refl
+fed-tickets c t devid time b m (done (Event.unlink q st r)) h = refl
+fed-tickets c t devid time b m (done (Event.break f ts)) h = ap ticketsOf (broken c (h (Event.break f ts) refl))
   where
-    broken : (c : Bool) → byPhase c (RightRequest t (b .items) m (Event.break f ts)) (RightMessage devid (b .items) m (Event.break f ts))
+    broken : (c : Bool) → byPhase c (RightRequest t (b .items) m (Event.break f ts)) (RightMessage devid time (b .items) m (Event.break f ts))
         → ts ≡ tickets (pendingOf (b .items))
     broken true k = k .2
     broken false k = k .2
 
 closed-tickets : (b : Book) (o : Outcome (List ℕ)) → ((ts : List ℕ) → o ≡ done ts → ts ≡ tickets (pendingOf (b .items)))
-    → ticketsOf (droppedByClose o) ≡ besideClose b o
+    → ticketsOf (listedBy o) ≡ besideClose b o
 closed-tickets b (refused n) h = refl
 closed-tickets b (done ts) h = ap ticketsOf (h ts refl)
 
 beside : (s : Session) (a : Act) (b : Book) → Meets s a → Right (viewOf s) b (callOf a) → Beside b a
 unfolding fedOf
-beside s (feeds piece entry exit r) b h k =
-    let f = feedOf (viewOf s) entry piece in
+beside s (feeds piece entry exit time r) b h k =
+    let f = feedOf (viewOf s) entry piece time in
     ap (λ (x : Result). x .dropped) (h .said)
-    ∙ fed-tickets (eqb (viewOf s .link .phase) Limits.WAITING) (s .table) (s .link .devid) b _ (f .event) (λ e q. k .right e q .1)
+    ∙ fed-tickets (eqb (viewOf s .link .phase) Limits.WAITING) (s .table) (s .link .devid) time b _ (f .event) (λ e q. k .right e q .1)
     ∙ ap (λ (x : Result). besideFeed b (x .event)) (sym (h .said))
 beside s (completes c header r) b h k = tt
 beside s (closes r) b h k =
@@ -124,6 +126,16 @@ code-run t o acts p r =
       tidy = stays-tidy acts (o .session) r (p .tidy);
     }
 
+-- ## The inquiry
+
+pub code-inquires : CodeInquires
+code-inquires t o acts time limit r p q h =
+    let f = code-run t o acts p q in
+    let cs = map callOf acts in
+    let said = h .said ∙ ap (λ (z : Sess). staleOf z time limit) (f .last) in
+    subst (λ (b : Book). RightInquiry b time limit (inquiryOf (r .answer) (r .stale))) (sym (f .book))
+    (subst (λ (x : Outcome (List ℕ)). RightInquiry (bookFrom t cs) time limit x) (sym said) (stale-listed t cs time limit))
+
 -- ## The struct
 
 -- of tidy sessions the view says all
@@ -144,7 +156,7 @@ feed-case : (e : Case) (setup : List ℕ) (ts : Tickets) (n : ℕ) → eventOf e
 feed-case Hungry setup ts n h = cc
 feed-case Listed setup ts n h = cc
 feed-case (Import st) setup ts n h = cc
-feed-case (Submit t u) setup ts n h = cc
+feed-case (Submit t a u) setup ts n h = cc
 feed-case (Answered q st) setup ts n h = cc
 feed-case (Unlink q st r) setup ts n h = cc
 feed-case (Break f) setup ts n h = cc
@@ -160,8 +172,8 @@ close-case (ClosingRefused m) ts n h = cc
 
 pub code-refuses : CodeRefuses
 unfolding fedOf
-code-refuses s (feeds piece entry exit r) n h e =
-    let k = untouched (viewOf s) entry piece .refuses n (ap (λ (x : Result). x .event) (sym (h .said)) ∙ e) in (
+code-refuses s (feeds piece entry exit time r) n h e =
+    let k = untouched (viewOf s) entry piece time .refuses n (ap (λ (x : Result). x .event) (sym (h .said)) ∙ e) in (
       h .same n (feed-case (r .answer .event) (r .answer .setup) (r .dropped) n e),
       ap (λ (x : Result). x .buffers) (h .said) ∙ ap (λ (x : Feeding). x .buffers) k,
       ap (λ (x : Result). x .consumed) (h .said) ∙ ap (λ (x : Feeding). x .consumed) k,

@@ -12,41 +12,43 @@ use Rattle.model.specs.Acts.{Buffers}
 use Rattle.model.specs.Book.{Call, feed, complete, close, Entry, fed, completed, closing, Book, opened, keep, pendingOf}
 use Rattle.model.specs.Claims.{Holds}
 use Rattle.model.specs.Corollaries.{sessionFrom, bookFrom}
-use Rattle.events.specs.Answers.{eventOf, completionOf, closingOf, ticketsOf}
+use Rattle.model.specs.Stale.{RightInquiry}
+use Rattle.events.specs.Answers.{eventOf, completionOf, closingOf, inquiryOf, ticketsOf}
 use Rattle.events.specs.declared.answer.Opening.{Opening}
 use Rattle.events.specs.declared.answer.Opening.the-variants.{Ready, Refused}
 use Rattle.session.specs.Views.{viewOf, Tidy}
-use Rattle.session.specs.Acts.{Opens, Feeds, Completes, Closes}
+use Rattle.session.specs.Acts.{Opens, Feeds, Completes, Closes, Inquires}
 use Rattle.session.specs.declared.state.Session.{Session}
 use Rattle.session.specs.declared.answer.Opened.{Opened}
 use Rattle.session.specs.declared.answer.Fed.{Fed}
 use Rattle.session.specs.declared.answer.Completed.{Completed}
 use Rattle.session.specs.declared.answer.Closed.{Closed}
+use Rattle.session.specs.declared.answer.Inquired.{Inquired}
 
 -- A call of the code, with what it handed back and left in the lent buffers.
 pub data Act : Type 0 where
-  feeds : (piece : List ℕ) → (entry exit : Buffers) → Fed → Act
+  feeds : (piece : List ℕ) → (entry exit : Buffers) → (time : ℕ) → Fed → Act
   completes : Acts.Completion → (header : List ℕ) → Completed → Act
   closes : Closed → Act
 
 abbrev pub callOf : Act → Call
-callOf (feeds piece entry exit r) = feed piece entry
+callOf (feeds piece entry exit time r) = feed piece entry time
 callOf (completes c header r) = complete c
 callOf (closes r) = close
 
 abbrev pub entryBy : Act → Entry
-entryBy (feeds piece entry exit r) = let a = r .answer in fed piece (eventOf (a .event) (a .setup) (r .dropped)) (a .consumed)
+entryBy (feeds piece entry exit time r) = let a = r .answer in fed piece (eventOf (a .event) (a .setup) (r .dropped)) (a .consumed)
 entryBy (completes c header r) = completed (c .ticket) (completionOf (r .answer))
 entryBy (closes r) = closing (closingOf (r .answer) (r .dropped))
 
 abbrev pub nextBy : Act → Session
-nextBy (feeds piece entry exit r) = r .session
+nextBy (feeds piece entry exit time r) = r .session
 nextBy (completes c header r) = r .session
 nextBy (closes r) = r .session
 
 -- It meets the contract of its act.
 abbrev pub Meets : Session → Act → Type 0
-Meets s (feeds piece entry exit r) = Feeds s piece entry exit r
+Meets s (feeds piece entry exit time r) = Feeds s piece entry exit time r
 Meets s (completes c header r) = Completes s c header r
 Meets s (closes r) = Closes s r
 
@@ -87,7 +89,7 @@ besideClose b (done ts) = pendingTickets b
 besideClose b (refused n) = ticketsOf []
 
 abbrev pub Beside : Book → Act → Type 0
-Beside b (feeds piece entry exit r) = let a = r .answer in r .dropped ≡ besideFeed b (eventOf (a .event) (a .setup) (r .dropped))
+Beside b (feeds piece entry exit time r) = let a = r .answer in r .dropped ≡ besideFeed b (eventOf (a .event) (a .setup) (r .dropped))
 Beside b (completes c header r) = Unit {0}
 Beside b (closes r) = r .dropped ≡ besideClose b (closingOf (r .answer) (r .dropped))
 
@@ -108,6 +110,12 @@ pub record Follows (t : Table) (o : Opened) (acts : List Act) : Type 0 where
 abbrev pub CodeRun : Type 0
 CodeRun = (t : Table) (o : Opened) (acts : List Act) → Opens t o → Run (o .session) acts → Follows t o acts
 
+-- An inquiry of the session that a run of the code leaves is right by the book kept from the code's own answers.
+abbrev pub CodeInquires : Type 0
+CodeInquires = (t : Table) (o : Opened) (acts : List Act) (time limit : ℕ) (r : Inquired)
+    → Opens t o → Run (o .session) acts → Inquires (lastOf (o .session) acts) time limit r
+    → RightInquiry (kept (opened (isReady (o .answer))) acts) time limit (inquiryOf (r .answer) (r .stale))
+
 -- Two runs of the code after which the definitions have the same session end with the same struct.
 abbrev pub SameStruct : Type 0
 SameStruct = (t u : Table) (o p : Opened) (acts others : List Act)
@@ -116,13 +124,13 @@ SameStruct = (t u : Table) (o p : Opened) (acts others : List Act)
 
 -- "nothing changes": the very session is handed back, the lent buffers are as they were, and nothing was consumed.
 abbrev pub Unchanged : Session → Act → Type 0
-Unchanged s (feeds piece entry exit r) = (r .session ≡ s) × (exit ≡ entry) × (r .answer .consumed ≡ 0)
+Unchanged s (feeds piece entry exit time r) = (r .session ≡ s) × (exit ≡ entry) × (r .answer .consumed ≡ 0)
 Unchanged s (completes c header r) = (r .session ≡ s) × (header ≡ c .header)
 Unchanged s (closes r) = r .session ≡ s
 
 -- An act was refused with a number.
 abbrev pub RefusedWith : Act → ℕ → Type 0
-RefusedWith (feeds piece entry exit r) n = let a = r .answer in eventOf (a .event) (a .setup) (r .dropped) ≡ refused n
+RefusedWith (feeds piece entry exit time r) n = let a = r .answer in eventOf (a .event) (a .setup) (r .dropped) ≡ refused n
 RefusedWith (completes c header r) n = completionOf (r .answer) ≡ refused n
 RefusedWith (closes r) n = closingOf (r .answer) (r .dropped) ≡ refused n
 

@@ -1,17 +1,21 @@
-// The acts of a session: open, feed, complete, close; its numbers and its device. Each act takes the session and hands back the next: what
-// must be looked up is asked and looked up once, what will be done is planned from values, and then it is carried out.
+// The acts of a session: open, feed, complete, close; the inquiry for stale requests; its numbers and its device. Each act takes the session
+// and hands back the next: what must be looked up is asked and looked up once, what will be done is planned from values, and then it is
+// carried out.
 use crate::answer::Closed;
 use crate::answer::Completed;
 use crate::answer::Fed;
+use crate::answer::Inquired;
 use crate::answer::Opened;
 use crate::carry::copy_data;
 use crate::carry::write_header;
 use crate::carry::write_reply;
 use crate::carry::write_request_reply;
 use crate::state::Session;
+use ages::stale_tickets;
 use events::answer::Answer;
-use events::answer::Event;
+use events::answer::Inquiry;
 use events::answer::Opening;
+use events::plan::Plan;
 use exports::device::Table;
 use feeding::ask::ask;
 use feeding::message::plan_piece;
@@ -19,6 +23,7 @@ use feeding::request::plan_request;
 use limits::ATTACHED;
 use limits::BAD_TABLE;
 use limits::CLOSED;
+use limits::SESSION_CLOSED;
 use limits::WAITING;
 use links::guard::phase_of;
 use links::link::fresh_link;
@@ -29,13 +34,13 @@ use settling::close::plan_close;
 use settling::completion::Given;
 use settling::completion::plan_completion;
 use tables::is_good;
-use wire::codes::SETUP_LEN;
+ghost use Prim.Native.Nat.{ℕ};
 ghost use mathlib.Core.Path.{_≡_};
 ghost use Rattle.limits.specs.Limits;
 ghost use Rattle.model.specs.State.{numbersOf, servedDevid};
 ghost use Rattle.model.specs.Cut.{lent};
 ghost use Rattle.session.specs.Views.{viewOf, freshSession, handed};
-ghost use Rattle.session.specs.Acts.{Opens, Feeds, Completes, Closes};
+ghost use Rattle.session.specs.Acts.{Opens, Feeds, Completes, Closes, Inquires};
 
 // A session that nothing was said to yet.
 fn fresh_session(table: Table, phase: u8) -> Session
@@ -50,13 +55,15 @@ fn fresh_session(table: Table, phase: u8) -> Session
     }
 }
 
-// A feed's answer.
-fn answer_with(event: Event, consumed: usize, length: usize, setup: [u8; SETUP_LEN]) -> Answer
-    ensures { λ r. ⌜ r ≡ record { event = event; consumed = consumed; length = length; setup = setup } ⌝ }
+// The answer of a feed's plan, with a reply of so many bytes.
+fn answer_of(plan: Plan, length: usize) -> Answer
+    ensures { λ r. ⌜ r ≡ record { event = plan .event; consumed = plan .consumed; length = length; setup = plan .setup } ⌝ }
 {
+    let event = plan.event;
+    let setup = plan.setup;
     Answer {
         event: event,
-        consumed: consumed,
+        consumed: plan.consumed,
         length: length,
         setup: setup,
     }
@@ -80,10 +87,12 @@ impl Session {
         }
     }
 
-    // A feed of a session that waits: a request. (Only this hands on the table, most of the session.)
+    // A feed of a session that waits: a request, for which the time has no use. (Only this hands on the table, most of the session.)
     fn feed_request(self, piece: &[u8], work: &mut [u8], reply: &mut [u8]) -> Fed
         requires { ⌜ self .link .phase ≡ Limits.WAITING ⌝ }
-        ensures { λ r. ⌜ Feeds self (now (piece .entry)) (lent (now (work .entry)) (now (reply .entry))) (lent (now (work .exit)) (now (reply .exit))) r ⌝ }
+        ensures { λ r.
+            ⌜ ((time : ℕ)
+            → Feeds self (now (piece .entry)) (lent (now (work .entry)) (now (reply .entry))) (lent (now (work .exit)) (now (reply .exit))) time r) ⌝ }
     {
         let link = self.link;
         let list = self.pending;
@@ -92,8 +101,6 @@ impl Session {
         let said = asked.reply;
         let next = plan.link;
         let change = plan.change;
-        let event = plan.event;
-        let setup = plan.setup;
         let pending = list.changed(change);
         let dropped = list.tickets(change.dropped);
         copy_data(piece, plan.from, plan.to, plan.body, work);
@@ -104,15 +111,16 @@ impl Session {
                 pending: pending,
                 ..self
             },
-            answer: answer_with(event, plan.consumed, n, setup),
+            answer: answer_of(plan, n),
             dropped: dropped,
         }
     }
 
-    // A piece of the stream, up to the end of the first whole message or all of it. A submit's data goes to the work buffer,
-    // a reply to the front of the reply buffer.
-    pub fn feed(self, piece: &[u8], work: &mut [u8], reply: &mut [u8]) -> Fed
-        ensures { λ r. ⌜ Feeds self (now (piece .entry)) (lent (now (work .entry)) (now (reply .entry))) (lent (now (work .exit)) (now (reply .exit))) r ⌝ }
+    // A piece of the stream, up to the end of the first whole message or all of it, and the time, in milliseconds that wrap. A submit's
+    // data goes to the work buffer, a reply to the front of the reply buffer.
+    pub fn feed(self, piece: &[u8], work: &mut [u8], reply: &mut [u8], time: u32) -> Fed
+        ensures { λ r.
+            ⌜ Feeds self (now (piece .entry)) (lent (now (work .entry)) (now (reply .entry))) (lent (now (work .exit)) (now (reply .exit))) time r ⌝ }
     {
         let link = self.link;
         if link.phase == WAITING {
@@ -130,11 +138,10 @@ impl Session {
             piece.len(),
             work.len(),
             reply.len(),
+            time,
         );
         let next = plan.link;
         let change = plan.change;
-        let event = plan.event;
-        let setup = plan.setup;
         let said = plan.reply;
         let pending = list.changed(change);
         let dropped = list.tickets(change.dropped);
@@ -146,7 +153,7 @@ impl Session {
                 pending: pending,
                 ..self
             },
-            answer: answer_with(event, plan.consumed, n, setup),
+            answer: answer_of(plan, n),
             dropped: dropped,
         }
     }
@@ -207,6 +214,27 @@ impl Session {
             },
             answer: answer,
             dropped: dropped,
+        }
+    }
+
+    // The tickets of the pending URBs that are stale: whose age at a time is at least a limit. The session stays as it is, and isn't handed
+    // back.
+    pub fn stale(self, time: u32, limit: u32) -> Inquired
+        ensures { λ r. ⌜ Inquires self time limit r ⌝ }
+    {
+        let link = self.link;
+        let list = self.pending;
+        if phase_of(link, list.count) == CLOSED {
+            let none = list.tickets(0);
+            return Inquired {
+                answer: Inquiry::Refused(SESSION_CLOSED),
+                stale: none,
+            };
+        }
+        let stale = stale_tickets(list, time, limit);
+        Inquired {
+            answer: Inquiry::Listed,
+            stale: stale,
         }
     }
 

@@ -32,7 +32,7 @@ use Rattle.links.specs.declared.link.Link.{Link}
 use Rattle.links.proofs.Fits.{counts-known, even-counts, plus-fits}
 use Rattle.links.proofs.Views.{view-fit, live, live-view}
 use Rattle.links.proofs.Tidy.{none-padded}
-use Rattle.events.specs.Answers.{ticketsOf, droppedByClose}
+use Rattle.events.specs.Answers.{ticketsOf, listedBy}
 use Rattle.events.proofs.Saying.{remove-clean, clear-clean, drops-all, all-dropped, all-listed}
 use Rattle.settling.specs.Settling.{judgedBy, returnedLink, refusalPlan, returnPlan, completionPlan, CompletionDone, CompletionComposed, refusedClose}
 use Rattle.settling.specs.Settling.{droppingClose, closePlan, CloseDone, CloseComposed}
@@ -199,7 +199,7 @@ module _ (t : Table) (k : Link) (l : Pending) (w : Whole l) where
       let e = close-refused (viewOfParts closing) h in
       record {
         done = rw (keep-is l w) (sym e);
-        dropped = ap (λ (z : Acts.Close). ticketsOf (droppedByClose (z .answer))) (sym e);
+        dropped = ap (λ (z : Acts.Close). ticketsOf (listedBy (z .answer))) (sym e);
         same = λ n q. (refl, refl);
         tidy = λ y. rw (keep-is l w) y;
       }
@@ -214,7 +214,7 @@ module _ (t : Table) (k : Link) (l : Pending) (w : Whole l) where
       let next = bare ∙ ap (λ (z : Sess). Acts.between (Acts.drops z)) (sym (live-view closing v)) in
       record {
         done = (λ i. record { answer = done (all-listed l i); next = next i }) ∙ sym e;
-        dropped = all-dropped l ∙ ap (λ (z : Acts.Close). ticketsOf (droppedByClose (z .answer))) (sym e);
+        dropped = all-dropped l ∙ ap (λ (z : Acts.Close). ticketsOf (listedBy (z .answer))) (sym e);
         same = λ n q. let z : _≡_ {A = ℕ} 0 1 = cc in absurd (omega arith);
         tidy =
             λ y.

@@ -26,7 +26,7 @@ use Rattle.model.specs.Acts
 use Rattle.model.specs.Acts.{Complete, completeOf, Close, closeOf}
 use Rattle.links.specs.Links.{whole, viewOfParts, phaseOf, linkWithCounts, plus, endedLink, TidyParts}
 use Rattle.links.specs.declared.link.Link.{Link}
-use Rattle.events.specs.Answers.{completionOf, closingOf, ticketsOf, droppedByClose}
+use Rattle.events.specs.Answers.{completionOf, closingOf, ticketsOf, listedBy}
 use Rattle.events.specs.Plans.{ticketsDropped}
 use Rattle.events.specs.declared.answer.Closing.the-variants.{End, Refused as ClosingRefused}
 use Rattle.events.specs.declared.answer.Completion.the-variants.{Return, Refused}
@@ -127,7 +127,7 @@ closedBy t l r = record { answer = closingOf (r .answer) (ticketsDropped l (r .c
 -- What a close's plan is to its session, and the tickets that stand beside its answer.
 pub record CloseDone (r : ClosePlan) (t : Table) (k : Link) (l : Pending) : Type 0 where
   pub done : closedBy t l r ≡ closeOf (viewOfParts (whole t k l))
-  pub dropped : ticketsDropped l (r .change) ≡ ticketsOf (droppedByClose (closeOf (viewOfParts (whole t k l)) .answer))
+  pub dropped : ticketsDropped l (r .change) ≡ ticketsOf (listedBy (closeOf (viewOfParts (whole t k l)) .answer))
   pub same : (n : ℕ) → r .answer ≡ ClosingRefused n → (r .link ≡ k) × (r .change ≡ keeps (l .count))
   pub tidy : TidyParts (whole t k l) → TidyParts (whole t (r .link) (changed l (r .change)))
 

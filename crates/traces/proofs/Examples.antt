@@ -15,6 +15,7 @@ urb =
       ticket = 7;
       transfer = record { seqnum = 3333; direction = 1; ep = 2; flags = 512; length = 64; start = 0xffffffff; packets = 0; interval = 4 };
       setup = 0x80 ∷ 6 ∷ 0 ∷ 1 ∷ 0 ∷ 0 ∷ 0x12 ∷ 0 ∷ [];
+      arrival = 9;
     }
 
 pub traces :

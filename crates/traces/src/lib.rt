@@ -12,7 +12,7 @@ use numerals::text::put_bytes;
 use numerals::text::with_number;
 use wire::codes::HEADER_LEN;
 use wire::codes::SETUP_LEN;
-ghost use Prim.Native.Nat.{_+_, _*_, _≤_};
+ghost use Prim.Native.Nat.{ℕ, _+_, _*_, _≤_};
 ghost use mathlib.Core.List.{[], _∷_};
 ghost use Rattle.ground.specs.Writing.{Wrote};
 ghost use Rattle.events.specs.Answers.{removedOf, completionOf};
@@ -64,9 +64,11 @@ fn record_text(ticket: u64, t: Transfer) -> Text
     with_four(front, t.length, t.start, t.packets, t.interval)
 }
 
-// The same of an accepted submit's record.
+// The same of an accepted submit's record, whatever its arrival, which isn't shown.
 pub fn trace_record(ticket: u64, t: Transfer, setup: [u8; SETUP_LEN], out: &mut [u8]) -> usize
-    ensures { λ n. ⌜ Wrote (recordTrace (record { ticket = ticket; transfer = t; setup = setup })) (now (out .entry)) (now (out .exit)) n ⌝ }
+    ensures { λ n.
+        ⌜ ((arrival : ℕ)
+        → Wrote (recordTrace (record { ticket = ticket; transfer = t; setup = setup; arrival = arrival })) (now (out .entry)) (now (out .exit)) n) ⌝ }
 {
     let numbers = record_text(ticket, t);
     put_hex(numbers, &setup, out)

@@ -108,7 +108,7 @@ impl Author {
     fn stream(&mut self, bytes: Vec<u8>) {
         let mut rest = &bytes[..];
         while !rest.is_empty() && !self.session.is_closed() {
-            let fed = self.session.feed(rest, &mut self.work, &mut self.reply);
+            let fed = self.session.feed(rest, &mut self.work, &mut self.reply, 0);
             rest = &rest[fed.consumed..];
         }
         self.records.push(Record::Stream(bytes));

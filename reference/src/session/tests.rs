@@ -48,7 +48,12 @@ impl Deck {
     }
 
     fn feed(&mut self, piece: &[u8]) -> Fed {
-        self.session.feed(piece, &mut self.work, &mut self.reply)
+        self.feed_at(0, piece)
+    }
+
+    fn feed_at(&mut self, time: u32, piece: &[u8]) -> Fed {
+        let (work, reply) = (&mut self.work, &mut self.reply);
+        self.session.feed(piece, work, reply, time)
     }
 
     fn accept(&mut self, submit: &CmdSubmit) -> u64 {
@@ -184,6 +189,7 @@ mod known_exchanges {
             number_of_packets: 0,
             interval: 4,
             setup: [0; 8],
+            arrival: 0,
         };
         let fed = deck.feed(&message);
         assert_eq!((fed.consumed, fed.length), (48, 0));
@@ -306,7 +312,7 @@ mod refusals {
             for (work, reply) in [(LEAST_WORK - 1, LEAST_REPLY), (LEAST_WORK, LEAST_REPLY - 1)] {
                 for piece in [&[][..], &[1], &op_req_devlist()] {
                     let work = &mut deck.work[..work];
-                    let fed = deck.session.feed(piece, work, &mut deck.reply[..reply]);
+                    let fed = deck.session.feed(piece, work, &mut deck.reply[..reply], 0);
                     assert_eq!((fed.consumed, fed.length), (0, 0));
                     assert_eq!(fed.event, Event::Refused(Refusal::SmallBuffer));
                 }
@@ -334,7 +340,7 @@ mod refusals {
         let mut deck = Deck::with_pending(1);
         assert_eq!(deck.session.close(), Ok(vec![1]));
         let closed = deck.session.clone();
-        let fed = deck.session.feed(&[], &mut [], &mut []);
+        let fed = deck.session.feed(&[], &mut [], &mut [], 0);
         assert_eq!(fed.event, Event::Refused(Refusal::Closed));
         let result = deck.session.complete(1, 0, 0, &[], &mut []);
         assert_eq!(result, Err(Refusal::Closed));
@@ -834,5 +840,89 @@ mod short_reads {
         deck.accept(&flagged(URB_SHORT_NOT_OK, |_| ()));
         assert_eq!(deck.complete(1, 1, 63), Err(Refusal::PositiveStatus));
         assert_eq!(deck.numbers(), [1, 1, 0, 0, 0]);
+    }
+}
+
+mod stale {
+    use super::*;
+
+    /// Attached, with a submit pending that arrived at each of these times.
+    fn arrived(times: &[u32]) -> Deck {
+        let mut deck = Deck::attached();
+        for (seqnum, &time) in (1..).zip(times) {
+            deck.feed_at(time, &intr_in(seqnum).header());
+        }
+        deck
+    }
+
+    fn stale(deck: &Deck, time: u32, limit: u32) -> Vec<u64> {
+        deck.session.stale(time, limit).unwrap()
+    }
+
+    #[test]
+    fn the_age_is_counted_over_the_wrap() {
+        let deck = arrived(&[0xffff_fff0]);
+        assert_eq!(stale(&deck, 0x10, 0x20), [1]);
+        assert_eq!(stale(&deck, 0x10, 0x21), []);
+        assert_eq!(stale(&deck, 0xffff_fff0, 0), [1]);
+        assert_eq!(stale(&deck, 0xffff_fff0, 1), []);
+    }
+
+    #[test]
+    fn a_time_before_the_arrival_is_a_huge_age() {
+        let deck = arrived(&[5]);
+        assert_eq!(stale(&deck, 4, u32::MAX), [1]);
+        assert_eq!(stale(&deck, 3, u32::MAX), []);
+        assert_eq!(stale(&deck, 3, u32::MAX - 1), [1]);
+    }
+
+    #[test]
+    fn a_limit_of_0_lists_all_and_the_highest_one_age() {
+        let deck = arrived(&[7, 8, 9, 10]);
+        assert_eq!(stale(&deck, 9, 0), [1, 2, 3, 4]);
+        assert_eq!(stale(&deck, 9, u32::MAX), [4]);
+        assert_eq!(stale(&deck, 9, 1), [1, 2, 4]);
+    }
+
+    #[test]
+    fn a_submit_arrives_with_its_last_byte() {
+        let message = [&intr_out(1).header()[..], &[0; 64]].concat();
+        let mut deck = Deck::attached();
+        assert_eq!(deck.feed_at(5, &message[..20]).event, Event::Hungry);
+        assert_eq!(deck.feed_at(6, &message[20..60]).event, Event::Hungry);
+        let Event::Accepted(urb) = deck.feed_at(7, &message[60..]).event else {
+            panic!("not accepted");
+        };
+        assert_eq!(urb.arrival, 7);
+        assert_eq!(deck.session.pending()[0].arrival, 7);
+    }
+
+    #[test]
+    fn what_is_no_longer_pending_is_not_listed() {
+        let mut deck = arrived(&[1, 2, 3, 4]);
+        assert_eq!(deck.complete(2, 0, 0), Ok(48));
+        deck.unlink(9, 3);
+        assert_eq!(stale(&deck, 100, 0), [1, 4]);
+        assert_eq!(deck.numbers(), [4, 2, 1, 1, 0]);
+    }
+
+    #[test]
+    fn a_closed_session_refuses_and_one_that_waits_lists_nothing() {
+        let mut deck = Deck::waiting(tape::table());
+        assert_eq!(stale(&deck, 0, 0), []);
+        deck.session.close().unwrap();
+        assert_eq!(deck.session.stale(0, 0), Err(Refusal::Closed));
+    }
+
+    #[test]
+    fn a_refused_submit_answers_the_same_at_any_time() {
+        for time in [0, 1, u32::MAX] {
+            let mut deck = Deck::attached();
+            let fed = deck.feed_at(time, &with(|submit| submit.ep = 16).header());
+            assert_eq!(fed.length, 48);
+            let mut expected = bytes("00000003 00000064 00000000 00000000 00000000 ffffffea");
+            expected.resize(48, 0);
+            assert_eq!(deck.reply[..48], expected);
+        }
     }
 }

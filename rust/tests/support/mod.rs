@@ -45,7 +45,12 @@ impl Host {
     }
 
     pub fn feed(&mut self, piece: &[u8]) -> Result<Fed, Refusal> {
-        self.session.feed(piece, &mut self.work, &mut self.reply)
+        self.feed_at(0, piece)
+    }
+
+    pub fn feed_at(&mut self, time: u32, piece: &[u8]) -> Result<Fed, Refusal> {
+        let (work, reply) = (&mut self.work, &mut self.reply);
+        self.session.feed(piece, work, reply, time)
     }
 
     /// The event of a piece that is used up.

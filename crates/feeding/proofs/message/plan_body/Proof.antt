@@ -15,8 +15,8 @@ rest-requires c κs = search needs
 rest-requires-2 : tie.Need-rest-requires-2
 rest-requires-2 c κs = search needs
 
-add-t17 : tie.Need-add-t17
-add-t17 c = search needs
+add-t18 : tie.Need-add-t18
+add-t18 c = search needs
 
 plan-hungry-requires : tie.Need-plan-hungry-requires
 plan-hungry-requires c κs = search needs
@@ -59,7 +59,7 @@ plan-body-spec =
     cast-rest
     rest-requires
     rest-requires-2
-    add-t17
+    add-t18
     plan-hungry-requires
     returns
     add-end

@@ -68,7 +68,7 @@ abbrev start : tie.After-feed-once Inv-loop μ-loop → tie.Start Inv-loop μ-lo
 start f = loop f .before .before .before .before .before
 
 abbrev result : tie.After-feed-once Inv-loop μ-loop → Result
-result f = let l = loop f .loop in fedOf (viewOf (l .s)) (lent (l .work) (l .reply)) (drop (l .at) (start f .args .bytes .now))
+result f = let l = loop f .loop in fedOf (viewOf (l .s)) (lent (l .work) (l .reply)) (drop (l .at) (start f .args .bytes .now)) 0
 
 abbrev left : tie.After-feed-once Inv-loop μ-loop → Buffers
 left f = lent (f .feed-once .last .1 .1 .1 .0) (f .feed-once .last .1 .1 .1 .1 .0)

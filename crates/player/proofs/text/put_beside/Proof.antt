@@ -39,7 +39,7 @@ same-length c = search needs
 returns : tie.Need-returns
 returns c ts =
     let k = c .before .before in
-    rw (k .before .before .before .event .given .1) (k .put-submit .ensures)
+    rw (k .before .before .before .event .given .1) (k .put-submit .ensures 0)
 
 same-length-2 : tie.Need-same-length-2
 same-length-2 c = search needs

@@ -13,14 +13,14 @@ abbrev start : tie.After-trace-record → tie.Start
 start c = c .before .before .before .before
 
 abbrev urb : tie.After-trace-record → Urb
-urb c = record { ticket = start c .args .ticket; transfer = start c .args .u; setup = start c .args .setup }
+urb c = record { ticket = start c .args .ticket; transfer = start c .args .u; setup = start c .args .setup; arrival = 0 }
 
 -- the buffer with the record
 abbrev recorded : tie.After-trace-record → List ℕ
 recorded c = c .trace-record .last .1 .1 .1 .0
 
 record-put : (c : tie.After-trace-record) → Puts (recordTrace (urb c)) (start c .args .out .now) (recorded c) (c .trace-record .result)
-record-put c = puts-wrote _ _ _ _ (c .trace-record .ensures)
+record-put c = puts-wrote _ _ _ _ (c .trace-record .ensures 0)
 
 trace-record-requires : tie.Need-trace-record-requires
 trace-record-requires c κs = search needs
@@ -64,7 +64,7 @@ same-length : tie.Need-same-length
 same-length c = search needs
 
 returns : tie.Need-returns
-returns c = data-put (c .before .before)
+returns c arrival = data-put (c .before .before)
 
 pub put-submit-spec : {M : Type 1} → statement M
 put-submit-spec =

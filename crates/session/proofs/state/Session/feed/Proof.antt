@@ -14,12 +14,14 @@ arrays c = (search (unmapped, needs), search (unmapped, needs), search (unmapped
 composed : (c : tie.After-plan-piece) → let a = c .before .before .before .before .before .before .before .before .before .before .args in
     let r = c .plan-piece .result in
     Composed r (replyBytes (r .reply)) (a .self .table) (a .self .link) (a .self .pending) (a .piece .now) (lent (a .work .now) (a .reply .now))
+    (a .time)
 composed c =
     let y = c .before in
     let q = y .before in
     let s = q .before .before .before .before .before .before .before .before in
     let a = s .args in
-    message-planned (a .self) (a .piece .now) (lent (a .work .now) (a .reply .now)) (arrays s) (q .ask .result) (y .look .result) (c .plan-piece .result)
+    message-planned (a .self) (a .piece .now) (lent (a .work .now) (a .reply .now)) (a .time) (arrays s) (q .ask .result) (y .look .result)
+    (c .plan-piece .result)
     (q .before .before .if1 .left) (q .ask .ensures) (y .look .ensures) (c .plan-piece .ensures)
 
 feed-request-requires : tie.Need-feed-request-requires
@@ -32,7 +34,10 @@ same-length-2 : tie.Need-same-length-2
 same-length-2 c = search needs
 
 returns : tie.Need-returns
-returns c = c .before .before .before .before .feed-request .ensures
+returns c =
+    let f = c .before .before .before .before in
+    let s = f .before .before .before .before .before .before .before .before .before in
+    f .feed-request .ensures (s .args .time)
 
 ask-requires : tie.Need-ask-requires
 ask-requires c κs = search needs
@@ -50,13 +55,13 @@ tickets-requires : tie.Need-tickets-requires
 tickets-requires c κs = search needs
 
 copy-data-requires : tie.Need-copy-data-requires
-copy-data-requires c κs = let k = composed (c .before .before .before .before .before .before) in (k .inside, k .fits)
+copy-data-requires c κs = let k = composed (c .before .before .before .before .before) in (k .inside, k .fits)
 
 write-reply-requires : tie.Need-write-reply-requires
 write-reply-requires c κs = search needs
 
-answer-with-requires : tie.Need-answer-with-requires
-answer-with-requires c κs = search needs
+answer-of-requires : tie.Need-answer-of-requires
+answer-of-requires c κs = search needs
 
 same-length-3 : tie.Need-same-length-3
 same-length-3 c = search needs
@@ -70,12 +75,13 @@ returns-2 c =
     let d = w .before .before .before .before in
     let t = d .before .before in
     let l = t .before in
-    let p = l .before .before .before .before in
+    let p = l .before .before .before in
     let s = p .before .before .before .before .before .before .before .before .before .before in
     let a = s .args in
     let r = p .plan-piece .result in
-    rw (c .answer-with .ensures)
-    (feeds-by (a .self) (a .piece .now) (lent (a .work .now) (a .reply .now)) (lent _ _) r (replyBytes (r .reply)) (l .changed .result) (t .tickets .result)
+    rw (c .answer-of .ensures)
+    (feeds-by (a .self) (a .piece .now) (lent (a .work .now) (a .reply .now)) (lent _ _) (a .time) r (replyBytes (r .reply)) (l .changed .result)
+    (t .tickets .result)
     (w .write-reply .result) (arrays s .1) (composed p) (l .changed .ensures) (t .tickets .ensures) (d .copy-data .ensures) (w .write-reply .ensures .0)
     (w .write-reply .ensures .1))
 
@@ -94,7 +100,7 @@ feed-spec =
     tickets-requires
     copy-data-requires
     write-reply-requires
-    answer-with-requires
+    answer-of-requires
     same-length-3
     same-length-4
     returns-2)

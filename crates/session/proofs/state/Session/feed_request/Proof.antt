@@ -1,3 +1,4 @@
+use Prim.Native.Nat.{ℕ}
 use lib.ListN.{length}
 use mathlib.Core.Path.{_≡_}
 use Rattle.limits.specs.Limits.{MAX-DEVICES}
@@ -17,14 +18,14 @@ devices : (c : tie.Start) → length (c .args .self .table .devices) ≡ MAX-DEV
 devices c = search (unmapped, needs)
 
 -- the plan is that of the definitions
-composed : (c : tie.After-plan-request) → let a = c .before .before .before .before .before .before .args in
+composed : (c : tie.After-plan-request) (time : ℕ) → let a = c .before .before .before .before .before .before .args in
     let r = c .plan-request .result in
     Composed (r .plan) (requestBytes (a .self .table) (r .reply)) (a .self .table) (a .self .link) (a .self .pending) (a .piece .now)
-    (lent (a .work .now) (a .reply .now))
-composed c =
+    (lent (a .work .now) (a .reply .now)) time
+composed c time =
     let s = c .before .before .before .before .before .before in
     let a = s .args in
-    request-planned (a .self) (a .piece .now) (lent (a .work .now) (a .reply .now)) (arrays s) (c .plan-request .result) (devices s) (s .pre)
+    request-planned (a .self) (a .piece .now) (lent (a .work .now) (a .reply .now)) time (arrays s) (c .plan-request .result) (devices s) (s .pre)
     (c .plan-request .ensures)
 
 plan-request-requires : tie.Need-plan-request-requires
@@ -37,13 +38,13 @@ tickets-requires : tie.Need-tickets-requires
 tickets-requires c κs = search needs
 
 copy-data-requires : tie.Need-copy-data-requires
-copy-data-requires c κs = let k = composed (c .before .before .before .before .before .before .before) in (k .inside, k .fits)
+copy-data-requires c κs = let k = composed (c .before .before .before .before .before .before) 0 in (k .inside, k .fits)
 
 write-request-reply-requires : tie.Need-write-request-reply-requires
 write-request-reply-requires c κs = search needs
 
-answer-with-requires : tie.Need-answer-with-requires
-answer-with-requires c κs = search needs
+answer-of-requires : tie.Need-answer-of-requires
+answer-of-requires c κs = search needs
 
 same-length : tie.Need-same-length
 same-length c = search needs
@@ -52,18 +53,18 @@ same-length-2 : tie.Need-same-length-2
 same-length-2 c = search needs
 
 returns : tie.Need-returns
-returns c =
+returns c time =
     let w = c .before .before .before .before in
     let d = w .before .before .before .before in
     let t = d .before .before in
     let l = t .before in
-    let p = l .before .before .before .before .before in
+    let p = l .before .before .before .before in
     let s = p .before .before .before .before .before .before in
     let a = s .args in
     let r = p .plan-request .result in
-    rw (c .answer-with .ensures)
-    (feeds-by (a .self) (a .piece .now) (lent (a .work .now) (a .reply .now)) (lent _ _) (r .plan) (requestBytes (a .self .table) (r .reply))
-    (l .changed .result) (t .tickets .result) (w .write-request-reply .result) (arrays s .1) (composed p)
+    rw (c .answer-of .ensures)
+    (feeds-by (a .self) (a .piece .now) (lent (a .work .now) (a .reply .now)) (lent _ _) time (r .plan) (requestBytes (a .self .table) (r .reply))
+    (l .changed .result) (t .tickets .result) (w .write-request-reply .result) (arrays s .1) (composed p time)
     (l .changed .ensures) (t .tickets .ensures) (d .copy-data .ensures)
     (w .write-request-reply .ensures .0) (w .write-request-reply .ensures .1))
 
@@ -76,7 +77,7 @@ feed-request-spec =
     tickets-requires
     copy-data-requires
     write-request-reply-requires
-    answer-with-requires
+    answer-of-requires
     same-length
     same-length-2
     returns)

@@ -1,0 +1,2 @@
+-- Why the code gives what the definitions say.
+pub mod Ages
