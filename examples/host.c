@@ -21,9 +21,14 @@ static uint8_t piece[4096], work[RIMEMAPLE_WORK_LEN], reply[RIMEMAPLE_REPLY_LEN]
 static struct exposure {
     uint64_t ticket;
     uint32_t direction, length;
+    size_t packets; /* of an isochronous URB, else 0 */
+    struct rimemaple_packet iso[RIMEMAPLE_MAX_PACKETS];
 } started[RIMEMAPLE_MAX_PENDING];
 static size_t count;
 static uint32_t pictures;
+
+/* Of the URB that is finished. */
+static uint8_t picture[RIMEMAPLE_MAX_TRANSFER], header[RIMEMAPLE_HEADER_ROOM];
 
 /* A reply goes out whole before the next one starts. */
 static int send_all(const uint8_t *bytes, size_t length)
@@ -38,47 +43,74 @@ static int send_all(const uint8_t *bytes, size_t length)
     return 1;
 }
 
-static int send_reply(const uint8_t *header, const uint8_t *payload, size_t n)
+/* The header, n bytes of the picture, and the descriptors of the packets, which stand behind the header. */
+static int send_reply(size_t n, size_t packets)
 {
     size_t sent = 0;
     for (;;) {
-        struct rimemaple_part p = rimemaple_part(header, RIMEMAPLE_HEADER_LEN, payload, n, n, sent, 1460);
+        struct rimemaple_part p = rimemaple_part(header, sizeof header, picture, sizeof picture, n, packets, sent, 1460);
         if (p.length == 0)
             return 1;
-        if (!send_all((p.slice == RIMEMAPLE_OF_HEADER ? header : payload) + p.at, p.length))
+        if (!send_all((p.slice == RIMEMAPLE_OF_HEADER ? header : picture) + p.at, p.length))
             return 0;
         sent += p.length;
     }
 }
 
+static struct rimemaple_completed complete(const struct exposure *e)
+{
+    return rimemaple_complete(session, e->ticket, 0, e->length, picture, sizeof picture, header, sizeof header);
+}
+
+/* Each packet of an isochronous URB is transferred whole. Of an IN the picture has their bytes without gaps. */
+static struct rimemaple_completed complete_iso(const struct exposure *e)
+{
+    static struct rimemaple_results results;
+    uint32_t total = 0;
+    results.count = e->packets;
+    for (size_t i = 0; i < e->packets; i++) {
+        results.list[i].actual = e->iso[i].length;
+        total += e->iso[i].length;
+    }
+    return rimemaple_complete_iso(session, e->ticket, 0, total, results, picture, sizeof picture, header, sizeof header);
+}
+
 /* The device is done with the first URB that it started: a picture for IN, its number in front. */
 static int finish(void)
 {
-    static uint8_t picture[RIMEMAPLE_MAX_TRANSFER], header[RIMEMAPLE_HEADER_LEN];
     const struct exposure e = started[0];
     memmove(started, started + 1, --count * sizeof *started);
     if (e.direction == RIMEMAPLE_DIR_IN && e.length > 0) {
         memset(picture, (int)(pictures & 0xff), e.length);
         picture[0] = (uint8_t)++pictures;
     }
-    struct rimemaple_completed done =
-        rimemaple_complete(session, e.ticket, 0, e.length, picture, sizeof picture, header, sizeof header);
+    struct rimemaple_completed done = e.packets > 0 ? complete_iso(&e) : complete(&e);
     session = done.session;
     if (done.refusal) {
         fprintf(stderr, "ticket %lu: refused %u, its picture is dropped\n", (unsigned long)e.ticket, (unsigned)done.refusal);
         return 1;
     }
-    return send_reply(header, picture, done.length - RIMEMAPLE_HEADER_LEN);
+    return send_reply(done.length - RIMEMAPLE_HEADER_LEN - e.packets * RIMEMAPLE_DESCRIPTOR_LEN, e.packets);
+}
+
+/* number_of_packets of a URB that isn't isochronous is 0 or 0xffffffff. */
+static void start(const struct rimemaple_event *submit)
+{
+    const struct rimemaple_transfer *t = &submit->transfer;
+    struct exposure *e = &started[count++];
+    e->ticket = submit->ticket;
+    e->direction = t->direction;
+    e->length = t->length;
+    e->packets = t->packets <= RIMEMAPLE_MAX_PACKETS ? t->packets : 0;
+    memcpy(e->iso, submit->iso, sizeof e->iso);
 }
 
 /* What the answer to a feed asks of the host: send the reply, start what was accepted. */
 static int carry_out(const struct rimemaple_fed *fed)
 {
     const struct rimemaple_event *event = &fed->event;
-    if (event->kind == RIMEMAPLE_SUBMIT) {
-        struct exposure e = {event->ticket, event->transfer.direction, event->transfer.length};
-        started[count++] = e;
-    }
+    if (event->kind == RIMEMAPLE_SUBMIT)
+        start(event);
     if (event->kind == RIMEMAPLE_BREAK || event->kind == RIMEMAPLE_REFUSED) {
         fprintf(stderr, "the session ended with %u\n", (unsigned)event->number);
         return 0;

@@ -220,20 +220,29 @@ static void receive(struct connection *c)
 
 /* ---- What the device completes ---- */
 
+/* An isochronous URB is completed with a result for each packet; the header gets their descriptors, too. */
+static struct rimemaple_completed tell_engine(const struct connection *c, const struct urb *urb, const uint8_t *payload,
+                                              size_t length, uint8_t header[RIMEMAPLE_HEADER_ROOM])
+{
+    return urb->packets > 0 ? rimemaple_complete_iso(c->session, urb->ticket, urb->status, urb->actual, urb->results,
+                                                     payload, length, header, RIMEMAPLE_HEADER_ROOM)
+                            : rimemaple_complete(c->session, urb->ticket, urb->status, urb->actual, payload, length,
+                                                 header, RIMEMAPLE_HEADER_ROOM);
+}
+
 static void complete(struct connection *c, struct urb *urb)
 {
     const bool in = urb->direction == RIMEMAPLE_DIR_IN;
     const size_t payload_length = in ? urb->actual : 0;
     uint8_t *payload = in ? urb->data : NULL;
-    uint8_t header[RIMEMAPLE_HEADER_LEN];
-    const struct rimemaple_completed completed = rimemaple_complete(c->session, urb->ticket, urb->status, urb->actual,
-                                                                    payload, payload_length, header, sizeof header);
+    uint8_t header[RIMEMAPLE_HEADER_ROOM];
+    const struct rimemaple_completed completed = tell_engine(c, urb, payload, payload_length, header);
 
     c->session = completed.session;
     tape_completed(c->tape, urb, &completed);
     report_completed(&c->report, urb, &completed, header);
     if (!completed.refusal) {
-        replies_add_completed(&c->replies, header, payload, payload_length,
+        replies_add_completed(&c->replies, header, urb->packets, payload, payload_length,
                               c->options->hasty ? now_us() + HASTY_WAIT : 0);
         if (in)
             urb->data = NULL;

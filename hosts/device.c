@@ -93,25 +93,58 @@ void urb_accept(struct device *device, struct urb *urb)
 
 void urb_stall(struct device *device, struct urb *urb)
 {
+    for (uint32_t i = 0; i < urb->packets; i++)
+        urb->results.list[i] = (struct rimemaple_result){0, STALL};
+    urb->results.count = urb->packets;
     finish(device, urb, STALL, 0, 0);
+}
+
+static void sink(struct device *device, const uint8_t *bytes, uint32_t count)
+{
+    for (uint32_t i = 0; i < count; i++)
+        device->out_sum = (device->out_sum ^ bytes[i]) * FNV_PRIME;
+    device->out_bytes += count;
 }
 
 void urb_sink(struct device *device, struct urb *urb)
 {
-    for (uint32_t i = 0; i < urb->length; i++)
-        device->out_sum = (device->out_sum ^ urb->data[i]) * FNV_PRIME;
-    device->out_bytes += urb->length;
+    sink(device, urb->data, urb->length);
     finish(device, urb, 0, urb->length, device->out_delay);
+}
+
+uint8_t *urb_packet(struct device *device, struct urb *urb, uint32_t length, int32_t status)
+{
+    const bool in = urb->direction == RIMEMAPLE_DIR_IN;
+    const struct rimemaple_packet packet = urb->iso[urb->results.count];
+    const uint32_t actual = length < packet.length ? length : packet.length;
+    uint8_t *bytes;
+
+    if (!urb->data)
+        urb->data = allocate(urb->length);
+    bytes = urb->data + (in ? urb->actual : packet.offset);
+    if (!in)
+        sink(device, bytes, actual);
+    urb->results.list[urb->results.count++] = (struct rimemaple_result){actual, status};
+    urb->actual += actual;
+    if (urb->results.count == urb->packets)
+        finish(device, urb, 0, urb->actual, in ? 0 : device->out_delay);
+    return bytes;
 }
 
 static void work_on(struct device *device, struct urb *urb)
 {
-    if (urb->ep == 0)
+    const struct model *model = device->model;
+
+    if (urb->packets > 0 && (urb->ep == 0 || !model->isochronous))
+        urb_stall(device, urb);
+    else if (urb->ep == 0)
         control_run(device, urb);
     else if (device->halted[urb->direction][urb->ep])
         urb_stall(device, urb);
+    else if (urb->packets > 0)
+        model->isochronous(device, urb);
     else
-        device->model->endpoint(device, urb);
+        model->endpoint(device, urb);
 }
 
 /* Offers the model the URBs at the heads of their queues; true if it finished one. */
@@ -147,6 +180,9 @@ void device_submit(struct device *device, const struct rimemaple_event *submit, 
     urb->ep = submit->transfer.ep;
     urb->length = submit->transfer.length;
     memcpy(urb->setup, submit->setup, sizeof urb->setup);
+    if (submit->transfer.packets <= RIMEMAPLE_MAX_PACKETS)  /* else it is 0xffffffff, and not isochronous */
+        urb->packets = submit->transfer.packets;
+    memcpy(urb->iso, submit->iso, sizeof urb->iso);
     if (urb->direction == RIMEMAPLE_DIR_OUT) {
         urb->data = allocate(urb->length);
         memcpy(urb->data, out, urb->length);
@@ -166,15 +202,26 @@ static struct urb *take(struct urb **at)
     return urb;
 }
 
+/* The URB has all that was asked for, each packet too; an IN of bytes that nobody sent. */
+static void fill_stale(struct urb *urb)
+{
+    urb->actual = urb->packets > 0 ? 0 : urb->length;
+    urb->results.count = urb->packets;
+    for (uint32_t i = 0; i < urb->packets; i++) {
+        urb->results.list[i] = (struct rimemaple_result){urb->iso[i].length, 0};
+        urb->actual += urb->iso[i].length;
+    }
+    if (urb->direction == RIMEMAPLE_DIR_IN) {
+        urb->data = allocate(urb->length);
+        memset(urb->data, STALE_BYTE, urb->length);
+    }
+}
+
 /* The device doesn't hear of the unlink in time: it completes the ticket later, and the engine must refuse that. */
 static void come_late(struct urb *urb)
 {
     if (urb->state == URB_WAITING)
-        urb->actual = urb->length;
-    if (urb->state == URB_WAITING && urb->direction == RIMEMAPLE_DIR_IN) {
-        urb->data = allocate(urb->length);
-        memset(urb->data, STALE_BYTE, urb->length);
-    }
+        fill_stale(urb);
     urb->state = URB_CANCELLED;
     urb->due = now_us() + chance_below(CANCELLED_WAIT);
 }

@@ -26,10 +26,13 @@ struct urb {
     uint32_t ep;
     uint32_t length;
     uint8_t setup[RIMEMAPLE_SETUP_LEN];
+    uint32_t packets;       /* of an isochronous URB, else 0 */
+    struct rimemaple_packet iso[RIMEMAPLE_MAX_PACKETS];
     uint8_t *data;          /* OUT: the client's length bytes; IN: the device's actual bytes, once it is done */
     enum urb_state state;
     int32_t status;
     uint32_t actual;
+    struct rimemaple_results results;   /* of the packets that the device is done with */
     int64_t due;            /* when the host hears of the completion */
 };
 
@@ -50,6 +53,9 @@ struct model {
 
     /* A URB of another endpoint than 0: finishes it, or leaves it waiting and is asked again. */
     void (*endpoint)(struct device *device, struct urb *urb);
+
+    /* The same for an isochronous URB. Null: there are none, and it stalls. */
+    void (*isochronous)(struct device *device, struct urb *urb);
 };
 
 struct device {
@@ -66,7 +72,7 @@ struct device {
     int64_t out_delay;                  /* how long an OUT takes */
 };
 
-extern const struct model camera, serial, disk, vendor, zero, ethernet;
+extern const struct model camera, serial, disk, vendor, zero, ethernet, isocamera;
 
 /* ---- For the host ---- */
 
@@ -93,11 +99,16 @@ void urb_free(struct urb *urb);
    them. */
 uint8_t *urb_answer(struct device *device, struct urb *urb, size_t length);
 
-/* An OUT is done, all of it; or a URB stalls. */
+/* An OUT is done, all of it; or a URB stalls, with each of its packets. */
 void urb_accept(struct device *device, struct urb *urb);
 void urb_stall(struct device *device, struct urb *urb);
 
 /* An OUT is done, and its data is counted and summed. */
 void urb_sink(struct device *device, struct urb *urb);
+
+/* The next packet of an isochronous URB is done, with a status and so many bytes, cut to its length; with the last one
+   the URB is. An OUT's bytes are counted and summed. An IN's are zeros, for the model to fill; they stand right behind
+   those of the packet before it, for a reply has no gaps. */
+uint8_t *urb_packet(struct device *device, struct urb *urb, uint32_t length, int32_t status);
 
 #endif

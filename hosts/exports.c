@@ -9,7 +9,7 @@
 #define BUSNUM 1u
 #define FIRST_DEVNUM 15u
 
-static const struct model *const models[] = {&camera, &serial, &disk, &vendor, &zero, &ethernet};
+static const struct model *const models[] = {&camera, &serial, &disk, &vendor, &zero, &ethernet, &isocamera};
 
 static const struct model *find(const char *name, size_t length)
 {

@@ -55,13 +55,14 @@ void replies_add_fed(struct replies *replies, const uint8_t *bytes, size_t lengt
     insert(replies, overtaking ? front : replies->end, copy, length);
 }
 
-void replies_add_completed(struct replies *replies, const uint8_t *header, uint8_t *payload, size_t length,
-                           int64_t from)
+void replies_add_completed(struct replies *replies, const uint8_t *header, size_t packets, uint8_t *payload,
+                           size_t length, int64_t from)
 {
     struct reply *reply = insert(replies, replies->end, payload, length);
 
-    memcpy(reply->header, header, sizeof reply->header);
-    reply->header_length = sizeof reply->header;
+    reply->packets = packets;
+    reply->header_length = RIMEMAPLE_HEADER_LEN + packets * RIMEMAPLE_DESCRIPTOR_LEN;
+    memcpy(reply->header, header, reply->header_length);
     reply->from = from;
 }
 
@@ -77,7 +78,7 @@ static const uint8_t *next_part(const struct reply *r, size_t most, size_t *leng
 
     if (r->header_length > 0) {
         const struct rimemaple_part part = rimemaple_part(r->header, r->header_length, r->payload, r->payload_length,
-                                                          r->payload_length, r->sent, most);
+                                                          r->payload_length, r->packets, r->sent, most);
 
         start = (part.slice == RIMEMAPLE_OF_HEADER ? r->header : r->payload) + part.at;
         *length = part.length;

@@ -9,11 +9,13 @@
 
 #include <stdbool.h>
 
-/* A reply of feed has all its bytes in the payload; one of complete has a header before it. */
+/* A reply of feed has all its bytes in the payload; one of complete has a header before it, and the descriptors of its
+   packets behind it, which stand in the header. */
 struct reply {
     struct reply *next;
-    uint8_t header[RIMEMAPLE_HEADER_LEN];
-    size_t header_length;
+    uint8_t header[RIMEMAPLE_HEADER_ROOM];
+    size_t header_length;       /* with the descriptors; 0 for a reply of feed */
+    size_t packets;
     uint8_t *payload;
     size_t payload_length;
     size_t sent;
@@ -40,9 +42,10 @@ void replies_close(struct replies *replies);
    and for --hasty only. */
 void replies_add_fed(struct replies *replies, const uint8_t *bytes, size_t length, bool overtaking);
 
-/* A reply of complete: its header, and its payload, which is the queue's from now on. */
-void replies_add_completed(struct replies *replies, const uint8_t *header, uint8_t *payload, size_t length,
-                           int64_t from);
+/* A reply of complete: its header with the descriptors of so many packets, and its payload, which is the queue's from
+   now on. */
+void replies_add_completed(struct replies *replies, const uint8_t *header, size_t packets, uint8_t *payload,
+                           size_t length, int64_t from);
 
 /* When the next reply may go out; INT64_MAX if there is none. */
 int64_t replies_due(const struct replies *replies);

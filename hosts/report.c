@@ -16,6 +16,7 @@
 #define EP 16
 #define LENGTH 24
 #define PACKETS 32
+#define ERROR_COUNT 36
 
 /* The head of a request, 8 bytes, at the end of the tail. */
 #define REQUEST (RIMEMAPLE_HEADER_LEN - 8)
@@ -128,12 +129,13 @@ static void report_return(const struct report *r, const struct urb *urb, const s
 
     if (urb->state == URB_CANCELLED)
         log_line(r->connection, "UNEXPECTED: return of the cancelled ticket %" PRIu64, urb->ticket);
-    if (completed->length != RIMEMAPLE_HEADER_LEN + n)
+    if (completed->length != RIMEMAPLE_HEADER_LEN + n + (uint64_t)urb->packets * RIMEMAPLE_DESCRIPTOR_LEN)
         log_line(r->connection, "UNEXPECTED: the return of %" PRIu64 " has length %" PRIu64, urb->ticket,
                  completed->length);
     if (!r->quiet)
-        log_line(r->connection, "return %" PRIu64 " seq %" PRIu32 " status %" PRId32 " actual %" PRIu32,
-                 urb->ticket, be32(header + SEQNUM), completed->status, urb->actual);
+        log_line(r->connection,
+                 "return %" PRIu64 " seq %" PRIu32 " status %" PRId32 " actual %" PRIu32 " errors %" PRIu32,
+                 urb->ticket, be32(header + SEQNUM), completed->status, urb->actual, be32(header + ERROR_COUNT));
 }
 
 void report_completed(struct report *r, const struct urb *urb, const struct rimemaple_completed *completed,

@@ -134,13 +134,26 @@ void tape_fed(struct tape *tape, const uint8_t *piece, size_t length, const stru
     }
 }
 
+/* What the device said of an isochronous URB's packets: their total is the sum of the actual lengths. */
+static void put_results(FILE *bytes, const struct rimemaple_results *results)
+{
+    put_be(bytes, results->count, 1);
+    for (size_t i = 0; i < results->count; i++) {
+        put_be(bytes, results->list[i].actual, 4);
+        put_be(bytes, (uint32_t)results->list[i].status, 4);
+    }
+}
+
 void tape_completed(struct tape *tape, const struct urb *urb, const struct rimemaple_completed *completed)
 {
     if (running(tape)) {
-        fputs("D>", tape->bytes);
+        fputs(urb->packets > 0 ? "I>" : "D>", tape->bytes);
         put_be(tape->bytes, urb->ticket, 8);
         put_be(tape->bytes, (uint32_t)urb->status, 4);
-        put_be(tape->bytes, urb->actual, 4);
+        if (urb->packets > 0)
+            put_results(tape->bytes, &urb->results);
+        else
+            put_be(tape->bytes, urb->actual, 4);
         if (completed->refusal)
             fprintf(tape->lines, "refused %" PRIu32 "\n", completed->refusal);
         else

@@ -5,7 +5,7 @@
 #include "device.h"
 
 /* The most bytes of a stream that one record has room for. */
-#define TAPE_PIECE_MAX 16432
+#define TAPE_PIECE_MAX 16944
 
 struct tape;
 

@@ -24,6 +24,7 @@
 #define EP_ISOCHRONOUS 1
 #define EP_BULK 2
 #define EP_INTERRUPT 3
+#define EP_ASYNCHRONOUS 5       /* isochronous, at a rate of its own */
 #define EP_IN 0x80
 
 /* bmRequestType: direction, type and recipient. */
@@ -53,7 +54,8 @@
 
 #define SPEED_HIGH 3
 
-/* The status of a stalled transfer, -EPIPE. */
+/* The status of a stalled transfer, -EPIPE, and of one that was lost on the bus, -EPROTO. */
 #define STALL (-32)
+#define LOST (-71)
 
 #endif

@@ -20,12 +20,15 @@ static void print_limits(void)
     CONSTANT(MAX_INTERFACES);
     CONSTANT(MAX_PENDING);
     CONSTANT(MAX_TRANSFER);
+    CONSTANT(MAX_PACKETS);
     CONSTANT(PATH_LEN);
     CONSTANT(BUSID_LEN);
     CONSTANT(SETUP_LEN);
+    CONSTANT(DESCRIPTOR_LEN);
+    CONSTANT(HEADER_LEN);
     CONSTANT(WORK_LEN);
     CONSTANT(REPLY_LEN);
-    CONSTANT(HEADER_LEN);
+    CONSTANT(HEADER_ROOM);
     CONSTANT(DIR_OUT);
     CONSTANT(DIR_IN);
     CONSTANT(OF_HEADER);
@@ -47,7 +50,7 @@ static void print_numbers(void)
     CONSTANT(SESSION_CLOSED);
     CONSTANT(NOT_PENDING);
     CONSTANT(STATUS_ABOVE_0);
-    CONSTANT(ACTUAL_TOO_LONG);
+    CONSTANT(MISFIT);
     CONSTANT(SHORT_DATA);
     CONSTANT(BAD_VERSION);
     CONSTANT(BAD_CODE);
@@ -98,6 +101,9 @@ static void print_message(void)
     FIELD(transfer, start);
     FIELD(transfer, packets);
     FIELD(transfer, interval);
+    STRUCT(packet);
+    FIELD(packet, offset);
+    FIELD(packet, length);
     STRUCT(header);
     FIELD(header, command);
     FIELD(header, devid);
@@ -109,6 +115,7 @@ static void print_message(void)
     FIELD(progress, filled);
     FIELD(progress, header);
     FIELD(progress, body);
+    FIELD(progress, descriptors);
 }
 
 static void print_session(void)
@@ -128,6 +135,7 @@ static void print_session(void)
     FIELD(urb, transfer);
     FIELD(urb, setup);
     FIELD(urb, arrival);
+    FIELD(urb, iso);
     STRUCT(pending);
     FIELD(pending, urbs);
     FIELD(pending, count);
@@ -153,6 +161,7 @@ static void print_event(void)
     FIELD(event, transfer);
     FIELD(event, setup);
     FIELD(event, arrival);
+    FIELD(event, iso);
 }
 
 static void print_answers(void)
@@ -197,9 +206,20 @@ static void print_others(void)
     FIELD(limits, interfaces);
     FIELD(limits, pending);
     FIELD(limits, transfer);
+    FIELD(limits, packets);
     FIELD(limits, work);
     FIELD(limits, reply);
     FIELD(limits, header);
+}
+
+static void print_results(void)
+{
+    STRUCT(result);
+    FIELD(result, actual);
+    FIELD(result, status);
+    STRUCT(results);
+    FIELD(results, list);
+    FIELD(results, count);
 }
 
 int main(void)
@@ -212,5 +232,6 @@ int main(void)
     print_event();
     print_answers();
     print_others();
+    print_results();
     return 0;
 }

@@ -1,7 +1,8 @@
 //! The answers of `reference` in the library's form.
 
-use reference::{refusal, session};
-use rimemaple::{sys, Event, Fault, Fed, Numbers, Refusal, Returned, Tickets, MAX_PENDING};
+use reference::{packets, refusal, session};
+use rimemaple::{sys, Event, Fault, Fed, Numbers, Packets, Refusal, Returned, Tickets};
+use rimemaple::{Packet, PacketResult, MAX_PACKETS, MAX_PENDING};
 
 pub fn fed(fed: session::Fed) -> Result<Fed, Refusal> {
     Ok(Fed {
@@ -51,6 +52,7 @@ fn accepted(accepted: &session::Urb) -> Event {
         transfer: urb.transfer,
         setup: urb.setup,
         arrival: urb.arrival,
+        iso: Packets::from(&urb.iso[..accepted.packets.len()]),
     }
 }
 
@@ -87,6 +89,24 @@ pub fn urb(urb: &session::Urb) -> sys::Urb {
         },
         setup: urb.setup,
         arrival: urb.arrival,
+        iso: iso(&urb.packets),
+    }
+}
+
+/// In the first places, with zeros behind them.
+fn iso(packets: &[packets::Packet]) -> [Packet; MAX_PACKETS] {
+    let mut iso = [Packet::default(); MAX_PACKETS];
+    for (place, &packets::Packet { offset, length }) in iso.iter_mut().zip(packets) {
+        *place = Packet { offset, length };
+    }
+    iso
+}
+
+/// A packet's result as the library takes it.
+pub fn result(result: &packets::PacketResult) -> PacketResult {
+    PacketResult {
+        actual: result.actual_length,
+        status: result.status,
     }
 }
 

@@ -1,6 +1,7 @@
 //! A session of the library and one of `reference`: they are given the same and have to answer the same.
 
 use crate::{answers, tables};
+use reference::packets::PacketResult;
 use reference::session::{Session as PlainSession, LEAST_REPLY, LEAST_WORK};
 use reference::table::Device;
 use rimemaple::{sys, Fed, Refusal, Returned, Session, Tickets};
@@ -11,6 +12,16 @@ pub struct Completion<'a> {
     pub ticket: u64,
     pub status: i32,
     pub actual: u32,
+    pub payload: &'a [u8],
+}
+
+/// What it says of an isochronous one.
+#[derive(Clone, Copy, Debug)]
+pub struct IsoCompletion<'a> {
+    pub ticket: u64,
+    pub status: i32,
+    pub total: u32,
+    pub results: &'a [PacketResult],
     pub payload: &'a [u8],
 }
 
@@ -92,6 +103,32 @@ impl Pair {
         let answer = library.complete(ticket, status, actual, payload, &mut our_header);
         let reference = &mut self.reference;
         let expected = reference.complete(ticket, status, actual, payload, header);
+        let expected = expected.map(answers::returned);
+        assert_eq!(answer, expected.map_err(answers::refusal), "{completion:?}");
+        assert!(our_header == header, "the header of {completion:?}");
+        self.compare_after(answer.is_err(), &before);
+        answer
+    }
+
+    pub fn complete_iso(
+        &mut self,
+        completion: &IsoCompletion,
+        header: &mut [u8],
+    ) -> Result<Returned, Refusal> {
+        let IsoCompletion {
+            ticket,
+            status,
+            total,
+            results,
+            payload,
+        } = *completion;
+        let before = self.library.clone();
+        let mut our_header = header.to_vec();
+        let ours: Vec<rimemaple::PacketResult> = results.iter().map(answers::result).collect();
+        let library = &mut self.library;
+        let answer = library.complete_iso(ticket, status, total, &ours, payload, &mut our_header);
+        let reference = &mut self.reference;
+        let expected = reference.complete_iso(ticket, status, total, results, payload, header);
         let expected = expected.map(answers::returned);
         assert_eq!(answer, expected.map_err(answers::refusal), "{completion:?}");
         assert!(our_header == header, "the header of {completion:?}");

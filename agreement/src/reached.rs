@@ -1,6 +1,6 @@
 //! What a test reached, so that one that reaches too little fails.
 
-use rimemaple::{Event, Fed, Refusal};
+use rimemaple::{Event, Fed, Refusal, HEADER_LEN};
 use std::collections::BTreeMap;
 
 #[derive(Default)]
@@ -31,15 +31,19 @@ impl Reached {
 }
 
 /// The kinds of a feed's answer.
-pub const FEEDS: [&str; 27] = [
+pub const FEEDS: [&str; 31] = [
     "hungry",
     "list",
     "import 0",
     "import 1",
     "accepted",
+    "accepted with packets",
     "answer -19",
+    "answer -19 with packets",
     "answer -22",
+    "answer -22 with packets",
     "answer -12",
+    "answer -12 with packets",
     "unlink -104",
     "unlink 0",
     "break 10 at 0",
@@ -78,8 +82,10 @@ pub fn feed_kind(answer: &Result<Fed, Refusal>) -> String {
             Event::Hungry => "hungry".to_string(),
             Event::List => "list".to_string(),
             Event::Import { status } => format!("import {status}"),
-            Event::Submit { .. } => "accepted".to_string(),
-            Event::Answer { status, .. } => format!("answer {status}"),
+            Event::Submit { iso, .. } if iso.is_empty() => "accepted".to_string(),
+            Event::Submit { .. } => "accepted with packets".to_string(),
+            Event::Answer { status, .. } if fed.length == HEADER_LEN => format!("answer {status}"),
+            Event::Answer { status, .. } => format!("answer {status} with packets"),
             Event::Unlink { status, .. } => format!("unlink {status}"),
             Event::Break { fault, at, .. } => break_kind(fault.number(), at),
         },

@@ -3,6 +3,7 @@
 
 use agreement::pair::{Completion, Pair};
 use reference::capture::{self, bytes};
+use reference::session::LEAST_HEADER;
 use reference::table::Device;
 use reference::wire::{op_req_import, HEADER_SIZE};
 
@@ -14,13 +15,13 @@ fn sent(pair: &Pair, ticket: u64, data: &[u8], most: usize) -> Vec<u8> {
         actual: 64,
         payload: data,
     };
-    let mut header = [0xa5; HEADER_SIZE];
+    let mut header = [0xa5; LEAST_HEADER];
     let returned = pair.clone().complete(&completion, &mut header);
     let length = returned.expect("the ticket is pending").length;
     let n = length as usize - HEADER_SIZE;
     let mut reply = Vec::new();
     loop {
-        let part = rimemaple::part(&header, data, n, reply.len(), most);
+        let part = rimemaple::part(&header, data, n, 0, reply.len(), most);
         if part.is_empty() {
             return reply;
         }

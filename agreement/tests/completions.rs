@@ -1,12 +1,13 @@
 //! Completions with a header buffer and device data of any length, each number at its limits.
 
-use agreement::client::{submit, unlink, with_data};
+use agreement::client::{submit, unlink, with_body};
 use agreement::pair::{Completion, Pair};
 use agreement::reached::Reached;
 use agreement::tables;
 use reference::random::Random;
+use reference::session::LEAST_HEADER;
 use reference::table::Device;
-use reference::wire::{op_req_import, CmdSubmit, HEADER_SIZE, USBIP_DIR_IN, USBIP_DIR_OUT};
+use reference::wire::{op_req_import, CmdSubmit, USBIP_DIR_IN, USBIP_DIR_OUT};
 use rimemaple::{Refusal, Returned};
 
 /// The ticket of the submit under test; the one before it is pending, too, and the one behind it was unlinked.
@@ -44,10 +45,10 @@ fn attached(random: &mut Random, direction: u32, length: u32) -> Connection {
     };
     let mut before = op_req_import(&devices[1].busid);
     before.extend(submit(1, devid).header());
-    before.extend(with_data(&tested, random));
+    before.extend(with_body(&tested, random));
     before.extend(submit(3, devid).header());
     before.extend(unlink(5, devid, 3));
-    let mut later = with_data(&going_on, random);
+    let mut later = with_body(&going_on, random);
     before.extend(later.drain(..random.below(112)));
     // Whether it is pending still.
     later.extend(unlink(6, devid, tested.seqnum));
@@ -101,7 +102,7 @@ fn each_number_at_its_limits() {
                                 actual,
                                 payload: &frame[..data as usize],
                             };
-                            for header in [48, 49, 47, 0] {
+                            for header in [560, 561, 559, 48] {
                                 let refusal =
                                     compare(&connection, &completion, header, &mut random);
                                 reached.add(kind(refusal, direction, &completion));
@@ -130,7 +131,7 @@ fn header_buffers_of_every_length() {
     let mut reached = Reached::default();
     let connection = attached(&mut random, USBIP_DIR_IN, 64);
     let frame = random.bytes(64);
-    for header in 0..=100 {
+    for header in 0..=600 {
         for actual in [0, 64] {
             let completion = Completion {
                 ticket: TICKET,
@@ -139,7 +140,7 @@ fn header_buffers_of_every_length() {
                 payload: &frame,
             };
             let refusal = compare(&connection, &completion, header, &mut random);
-            let short = if header < 48 { "short" } else { "long enough" };
+            let short = if header < 560 { "short" } else { "long enough" };
             reached.add(format!("{short}: {refusal}"));
         }
     }
@@ -153,7 +154,7 @@ fn asked(random: &mut Random, tested: &CmdSubmit) -> Pair {
         devid: devices[0].devid(),
         ..*tested
     };
-    let before = [op_req_import(&devices[0].busid), with_data(&submit, random)].concat();
+    let before = [op_req_import(&devices[0].busid), with_body(&submit, random)].concat();
     connection(&devices, &before, &[]).pair
 }
 
@@ -191,7 +192,7 @@ fn complete_each_way(random: &mut Random, tested: &CmdSubmit, reached: &mut Reac
                 actual,
                 payload: &[0; 16_385],
             };
-            let answer = pair.clone().complete(&completion, &mut [0; HEADER_SIZE]);
+            let answer = pair.clone().complete(&completion, &mut [0; LEAST_HEADER]);
             reached.add(status_kind(tested, &completion, answer));
         }
     }
@@ -252,7 +253,7 @@ fn sessions_with_nothing_pending() {
     for (name, connection) in idle(&mut random) {
         for ticket in [0, 1, u64::MAX] {
             for (status, actual) in [(0, 0), (1, 65)] {
-                for header in [0, 47, 48, 49] {
+                for header in [0, 48, 559, 560] {
                     let completion = Completion {
                         ticket,
                         status,

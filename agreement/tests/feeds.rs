@@ -1,6 +1,6 @@
 //! Feeds with buffers of any length, of sessions over several devices.
 
-use agreement::client::{messages, submit, with_data};
+use agreement::client::{messages, submit, with_body};
 use agreement::pair::Pair;
 use agreement::reached::{feed_kind, Reached, FEEDS};
 use agreement::tables;
@@ -52,43 +52,69 @@ struct State {
     event: &'static str,
 }
 
+impl State {
+    fn new(devices: &[Device], name: &'static str, at: usize, event: &'static str) -> State {
+        State {
+            name,
+            devices: devices.to_vec(),
+            stream: Vec::new(),
+            at,
+            event,
+        }
+    }
+
+    /// Over this stream.
+    fn of(self, stream: &[&[u8]]) -> State {
+        let stream = stream.concat();
+        State { stream, ..self }
+    }
+}
+
 fn states(random: &mut Random) -> Vec<State> {
     let devices = tables::table(random, 3);
-    let device = &devices[1];
-    let import = op_req_import(&device.busid);
+    let mut states = attached_states(&devices, random);
+    let import = op_req_import(&devices[1].busid);
+    let list = op_req_devlist();
+    let state = |name, at, event| State::new(&devices, name, at, event);
+    states.extend([
+        state("waiting for a list", 0, "list").of(&[&list]),
+        state("waiting for an import", 0, "import 0").of(&[&import]),
+        state("waiting within a request", 5, "list").of(&[&list]),
+        state("waiting within an import", 20, "import 0").of(&[&import]),
+        state("closed by a list", 8, "refused 3").of(&[&list, &import]),
+        state("closed by an import", 40, "refused 3").of(&[&op_req_import(&[7; 32]), &list]),
+        state("closed by a break", 8, "refused 3").of(&[&[0; 8], &list]),
+    ]);
+    let mut clash = state("closed by open", 0, "refused 3").of(&[&list]);
+    clash.devices[2].busid = clash.devices[0].busid;
+    states.push(clash);
+    states
+}
+
+/// With an OUT of 200 bytes, and one of three packets as well.
+fn attached_states(devices: &[Device], random: &mut Random) -> Vec<State> {
+    let import = op_req_import(&devices[1].busid);
     let out = CmdSubmit {
         direction: USBIP_DIR_OUT,
         transfer_buffer_length: 200,
-        ..submit(1, device.devid())
+        ..submit(1, devices[1].devid())
     };
-    let out = [import.clone(), with_data(&out, random)].concat();
-    let list = op_req_devlist();
-    let other = [&list[..], &import].concat();
-    let unknown = [op_req_import(&[7; 32]), list.clone()].concat();
-    let broken = [&[0; 8], &list[..]].concat();
-    let state = |name, stream: &[u8], at, event| State {
-        name,
-        devices: devices.clone(),
-        stream: stream.to_vec(),
-        at,
-        event,
+    let iso = CmdSubmit {
+        number_of_packets: 3,
+        ..out
     };
-    let mut states = vec![
-        state("waiting for a list", &list, 0, "list"),
-        state("waiting for an import", &import, 0, "import 0"),
-        state("waiting within a request", &list, 5, "list"),
-        state("waiting within an import", &import, 20, "import 0"),
-        state("attached", &out, 40, "accepted"),
-        state("attached within a header", &out, 70, "accepted"),
-        state("attached within data", &out, 100, "accepted"),
-        state("closed by a list", &other, 8, "refused 3"),
-        state("closed by an import", &unknown, 40, "refused 3"),
-        state("closed by a break", &broken, 8, "refused 3"),
-        state("closed by open", &list, 0, "refused 3"),
-    ];
-    let clash = states.last_mut().expect("there are some");
-    clash.devices[2].busid = clash.devices[0].busid;
-    states
+    let (out, iso) = (with_body(&out, random), with_body(&iso, random));
+    let plain = |name, at| State::new(devices, name, at, "accepted").of(&[&import, &out]);
+    let packets =
+        |name, at| State::new(devices, name, at, "accepted with packets").of(&[&import, &iso]);
+    vec![
+        plain("attached", 40),
+        plain("attached within a header", 70),
+        plain("attached within data", 100),
+        packets("attached within the data of packets", 100),
+        packets("attached before descriptors", 288),
+        packets("attached within a descriptor", 300),
+    ]
 }
 
 #[test]
@@ -97,8 +123,8 @@ fn buffers_at_their_least_sizes() {
     let mut reached = Reached::default();
     let mut kinds = Vec::new();
     for state in states(&mut random) {
-        for work in [0, 1, LEAST_WORK - 1, LEAST_WORK, LEAST_WORK + 1] {
-            for reply in [0, 1, LEAST_REPLY - 1, LEAST_REPLY, LEAST_REPLY + 1] {
+        for work in [0, 16_384, 16_895, 16_896, 16_897] {
+            for reply in [0, 1, 8_191, 8_192, 8_193] {
                 for to in [state.at, state.at + 1, state.stream.len()] {
                     let cut = cut(&state.stream, state.at, to);
                     let fed = compare(&state.devices, &cut, work, reply, &mut random);

@@ -1,11 +1,11 @@
 //! Sessions whose parts don't fit together, as no act leaves them. A host that holds its session as a struct could hand
 //! one over all the same: each act refuses it with 3, and hands it back as it is.
 
-use agreement::client::{submit, unlink, with_data};
+use agreement::client::{submit, unlink, with_body};
 use agreement::pair::Pair;
 use agreement::tables;
 use reference::random::Random;
-use reference::session::{LEAST_REPLY, LEAST_WORK};
+use reference::session::{LEAST_HEADER, LEAST_REPLY, LEAST_WORK};
 use reference::table::Device;
 use reference::wire::{op_req_import, CmdSubmit, HEADER_SIZE, USBIP_DIR_IN, USBIP_DIR_OUT};
 use rimemaple::{sys, Refusal, Session};
@@ -85,14 +85,38 @@ const ATTACHED: [Change; 8] = [
     }),
 ];
 
+/// Of one that is attached, in the middle of two descriptors behind OUT data.
+const ISOCHRONOUS: [Change; 6] = [
+    ("all but one byte of the descriptors", true, |s| {
+        s.link.progress.body = OUT_LENGTH + 31
+    }),
+    ("all the descriptors", false, |s| {
+        s.link.progress.body = OUT_LENGTH + 32
+    }),
+    ("2^64 - 1 bytes of descriptors", false, |s| {
+        s.link.progress.body = usize::MAX
+    }),
+    ("one packet, of which more came", false, |s| {
+        s.link.progress.header.transfer.packets = 1
+    }),
+    ("no packets, of which some came", false, |s| {
+        s.link.progress.header.transfer.packets = 0
+    }),
+    ("data and packets that fill a work buffer", true, |s| {
+        s.link.progress.header.transfer.length = 16_384;
+        s.link.progress.header.transfer.packets = 32;
+    }),
+];
+
 fn waiting(devices: &[Device]) -> Session {
     let (mut pair, _) = Pair::open(devices, devices.len());
     pair.stream(&op_req_import(&devices[0].busid)[..20]);
     pair.library
 }
 
-/// Attached, with tickets 1 and 3 pending, 2 unlinked and 4 returned, in the middle of OUT data.
-fn attached(devices: &[Device], random: &mut Random) -> Session {
+/// Attached, with tickets 1 and 3 pending, 2 unlinked and 4 returned, and with so many bytes in behind the header of an OUT
+/// of so many packets.
+fn attached(devices: &[Device], packets: u32, body: usize, random: &mut Random) -> Session {
     let devid = devices[0].devid();
     let (mut pair, _) = Pair::open(devices, devices.len());
     pair.stream(&op_req_import(&devices[0].busid));
@@ -101,14 +125,15 @@ fn attached(devices: &[Device], random: &mut Random) -> Session {
     }
     pair.stream(&unlink(5, devid, 2));
     let mut session = pair.library;
-    let returned = session.complete(4, 0, 0, &[], &mut [0; HEADER_SIZE]);
+    let returned = session.complete(4, 0, 0, &[], &mut [0; LEAST_HEADER]);
     assert!(returned.is_ok());
     let out = CmdSubmit {
         direction: USBIP_DIR_OUT,
         transfer_buffer_length: OUT_LENGTH as u32,
+        number_of_packets: packets,
         ..submit(6, devid)
     };
-    let piece = &with_data(&out, random)[..HEADER_SIZE + OUT_LENGTH / 2];
+    let piece = &with_body(&out, random)[..HEADER_SIZE + body];
     let fed = session.feed(piece, &mut [0; LEAST_WORK], &mut [0; LEAST_REPLY], 0);
     assert!(fed.is_ok());
     session
@@ -117,13 +142,8 @@ fn attached(devices: &[Device], random: &mut Random) -> Session {
 /// Hands the session to every act: whether none refuses it with 3.
 fn is_served(session: &Session, what: &str) -> bool {
     let (mut work, mut reply) = ([UNTOUCHED; LEAST_WORK], [UNTOUCHED; LEAST_REPLY]);
-    let mut header = [UNTOUCHED; HEADER_SIZE];
-    let mut next = [
-        session.clone(),
-        session.clone(),
-        session.clone(),
-        session.clone(),
-    ];
+    let mut header = [UNTOUCHED; LEAST_HEADER];
+    let mut next = [(); 5].map(|()| session.clone());
     let answers = [
         next[0].feed(&[], &mut work, &mut reply, 0).map(|_| ()),
         next[1]
@@ -131,6 +151,9 @@ fn is_served(session: &Session, what: &str) -> bool {
             .map(|_| ()),
         next[2].complete(TICKET, 0, 0, &[], &mut header).map(|_| ()),
         next[3].close().map(|_| ()),
+        next[4]
+            .complete_iso(TICKET, 0, 0, &[], &[], &mut header)
+            .map(|_| ()),
         session.stale(0, 0).map(|_| ()),
     ];
     let refused = answers.map(|answer| answer == Err(Refusal::SESSION_CLOSED));
@@ -138,7 +161,7 @@ fn is_served(session: &Session, what: &str) -> bool {
     if !served {
         assert!(next.iter().all(|next| next == session), "{what}: changed");
         assert!(work == [UNTOUCHED; LEAST_WORK] && reply == [UNTOUCHED; LEAST_REPLY]);
-        assert!(header == [UNTOUCHED; HEADER_SIZE]);
+        assert!(header == [UNTOUCHED; LEAST_HEADER]);
         assert_eq!(session.devid(), None, "{what}");
     }
     assert!(
@@ -161,18 +184,21 @@ fn misfits_are_refused_and_handed_back() {
     let mut random = Random::new(71);
     let devices = tables::table(&mut random, 3);
     let waiting = waiting(&devices);
-    let attached = attached(&devices, &mut random);
+    let within_data = attached(&devices, 0, OUT_LENGTH / 2, &mut random);
+    let within_packets = attached(&devices, 2, OUT_LENGTH + 20, &mut random);
     compare(&waiting, &ALL);
     compare(&waiting, &WAITING);
-    compare(&attached, &ALL);
-    compare(&attached, &ATTACHED);
+    compare(&within_data, &ALL);
+    compare(&within_data, &ATTACHED);
+    compare(&within_packets, &ALL);
+    compare(&within_packets, &ISOCHRONOUS);
 }
 
 #[test]
 fn numbers_are_told_as_they_stand() {
     let mut random = Random::new(72);
     let devices = tables::table(&mut random, 3);
-    let mut session = *attached(&devices, &mut random).as_sys();
+    let mut session = *attached(&devices, 0, OUT_LENGTH / 2, &mut random).as_sys();
     session.link.counts.returned = u64::MAX;
     session.pending.count = 33;
     let numbers = Session::from(session).numbers();

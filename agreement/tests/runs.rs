@@ -1,14 +1,14 @@
 //! Whole runs over tables of several devices: a client, a device side and a host that do anything, in any order.
 
 use agreement::client::messages;
-use agreement::pair::{Completion, Pair};
+use agreement::pair::{Completion, IsoCompletion, Pair};
 use agreement::reached::{feed_kind, Reached, FEEDS};
 use agreement::tables;
+use reference::packets::{Packet, PacketResult};
 use reference::random::Random;
-use reference::session::{LEAST_REPLY, LEAST_WORK, MAX_PENDING};
+use reference::session::{Urb, LEAST_HEADER, LEAST_REPLY, LEAST_WORK, MAX_PENDING};
 use reference::table::MAX_DEVICES;
-use reference::wire::HEADER_SIZE;
-use rimemaple::Event;
+use rimemaple::{Event, Refusal, Returned};
 
 const RUNS: u64 = 10_000;
 /// Acts of a run, at most.
@@ -82,6 +82,11 @@ impl Run<'_> {
         let (work, reply) = (&mut self.work[..work], &mut self.reply[..reply]);
         let answer = self.pair.feed(piece, work, reply, self.time);
         self.reached.add(feed_kind(&answer));
+        // A host may do what it likes with its buffer between two feeds.
+        if self.random.chance(20) {
+            let byte = self.random.next_u32() as u8;
+            self.work.fill(byte);
+        }
         let Ok(fed) = answer else {
             return;
         };
@@ -91,35 +96,97 @@ impl Run<'_> {
         }
     }
 
+    /// Mostly of the URB's own kind.
     fn complete(&mut self) {
-        let (ticket, length) = self.pick_ticket();
+        let urb = self.pick_urb();
+        let wrong = self.random.chance(5);
+        match urb.as_ref().is_some_and(Urb::is_isochronous) != wrong {
+            true => self.complete_iso(urb.as_ref()),
+            false => self.complete_plain(urb.as_ref()),
+        }
+    }
+
+    fn complete_plain(&mut self, urb: Option<&Urb>) {
+        let length = urb.map_or(64, |urb| urb.transfer_buffer_length as usize);
         let most = self.usually(length, length + 1);
         let actual = self.random.pick(&[0, length / 2, most]);
         let data = self.usually(actual, actual.saturating_sub(1));
-        let header = self.usually(HEADER_SIZE, HEADER_SIZE - 1);
+        let header = self.usually(LEAST_HEADER, LEAST_HEADER - 1);
         let mut header = self.random.bytes(header);
         let completion = Completion {
-            ticket,
-            status: self.random.pick(&[0, 0, 0, 0, -1, -32, i32::MIN, 1]),
+            ticket: self.ticket_of(urb),
+            status: self.status(),
             actual: actual as u32,
             payload: &self.frame[..data],
         };
         let answer = self.pair.complete(&completion, &mut header);
+        self.add_answer("", completion.status, answer);
+    }
+
+    fn complete_iso(&mut self, urb: Option<&Urb>) {
+        let packets = urb.map_or(Vec::new(), |urb| urb.packets.clone());
+        let mut results: Vec<PacketResult> = packets.iter().map(|p| self.result(p)).collect();
+        let count = self.usually(packets.len(), packets.len() + 1);
+        results.resize(count, PacketResult::default());
+        let sum: u64 = results.iter().map(|r| u64::from(r.actual_length)).sum();
+        let total = self.usually(sum as usize, sum as usize + 1) as u32;
+        let room = (total as usize).min(FRAME);
+        let data = self.usually(room, room.saturating_sub(1));
+        let header = self.usually(LEAST_HEADER, LEAST_HEADER - 1);
+        let mut header = self.random.bytes(header);
+        let completion = IsoCompletion {
+            ticket: self.ticket_of(urb),
+            status: self.status(),
+            total,
+            results: &results,
+            payload: &self.frame[..data],
+        };
+        let answer = self.pair.complete_iso(&completion, &mut header);
+        self.add_answer("isochronous ", completion.status, answer);
+    }
+
+    /// Within the packet, but for a few.
+    fn result(&mut self, packet: &Packet) -> PacketResult {
+        let length = packet.length as usize;
+        let some = self.random.below(length + 1);
+        let over = match self.random.below(200) {
+            0 => length + 1,
+            1 => u32::MAX as usize,
+            _ => length,
+        };
+        PacketResult {
+            actual_length: self.random.pick(&[0, some, over]) as u32,
+            status: self.random.pick(&[0, 0, 0, -71, 1]),
+        }
+    }
+
+    fn status(&mut self) -> i32 {
+        self.random.pick(&[0, 0, 0, 0, -1, -32, i32::MIN, 1])
+    }
+
+    fn add_answer(&mut self, kind: &str, given: i32, answer: Result<Returned, Refusal>) {
         self.reached.add(match answer {
-            Ok(returned) if returned.status == completion.status => "returned".to_string(),
-            Ok(returned) => format!("returned with {}", returned.status),
-            Err(refusal) => format!("completion refused {}", refusal.number()),
+            Ok(returned) if returned.status == given => format!("{kind}returned"),
+            Ok(returned) => format!("{kind}returned with {}", returned.status),
+            Err(refusal) => format!("{kind}completion refused {}", refusal.number()),
         });
     }
 
-    /// A pending ticket and its length, or now and then one that isn't pending.
-    fn pick_ticket(&mut self) -> (u64, usize) {
+    /// A pending one, or now and then none.
+    fn pick_urb(&mut self) -> Option<Urb> {
         let pending = self.pair.reference.pending();
-        if pending.is_empty() || self.random.chance(10) {
-            return (self.random.below(50) as u64, 64);
+        match pending.is_empty() || self.random.chance(10) {
+            true => None,
+            false => Some(pending[self.random.below(pending.len())].clone()),
         }
-        let urb = &pending[self.random.below(pending.len())];
-        (urb.ticket, urb.transfer_buffer_length as usize)
+    }
+
+    /// Without a URB any ticket, mostly one that isn't pending.
+    fn ticket_of(&mut self, urb: Option<&Urb>) -> u64 {
+        match urb {
+            Some(urb) => urb.ticket,
+            None => self.random.below(50) as u64,
+        }
     }
 
     /// With a limit that is just the age of a pending URB, or one less or more, or any.
@@ -175,6 +242,13 @@ fn feeds_completions_inquiries_and_closes_in_any_order() {
         "completion refused 5",
         "completion refused 6",
         "completion refused 7",
+        "isochronous returned",
+        "isochronous completion refused 1",
+        "isochronous completion refused 3",
+        "isochronous completion refused 4",
+        "isochronous completion refused 5",
+        "isochronous completion refused 6",
+        "isochronous completion refused 7",
         "a break drops nothing",
         "a break drops some",
         "a close drops nothing",

@@ -1,12 +1,12 @@
 //! The inquiry for stale requests: what each limit lists, on a clock that wraps.
 
-use agreement::client::{submit, unlink, with_data};
+use agreement::client::{submit, unlink, with_body};
 use agreement::pair::{Completion, Pair};
 use agreement::reached::Reached;
 use agreement::tables;
 use reference::random::Random;
-use reference::session::{LEAST_REPLY, LEAST_WORK, MAX_PENDING};
-use reference::wire::{op_req_import, CmdSubmit, HEADER_SIZE, USBIP_DIR_OUT};
+use reference::session::{LEAST_HEADER, LEAST_REPLY, LEAST_WORK, MAX_PENDING};
+use reference::wire::{op_req_import, CmdSubmit, USBIP_DIR_OUT};
 use rimemaple::{Event, Refusal};
 
 /// Attached to a device of this devid.
@@ -50,16 +50,18 @@ fn the_lowest_limit_and_the_highest() {
     assert_eq!(stale(&pair, 9, u32::MAX), [4]);
 }
 
-#[test]
-fn a_submit_arrives_with_its_last_byte() {
+/// An OUT of this length and this many packets, in pieces, at the times 5, 6 and 7.
+fn arrives_in_pieces(length: u32, packets: u32, every_cut: &[[usize; 2]]) {
     let mut random = Random::new(92);
     let (pair, devid) = attached(&mut random);
     let out = CmdSubmit {
         direction: USBIP_DIR_OUT,
+        transfer_buffer_length: length,
+        number_of_packets: packets,
         ..submit(1, devid)
     };
-    let message = with_data(&out, &mut random);
-    for cuts in [[10, 20], [20, 60], [48, 111], [70, 100], [111, 112]] {
+    let message = with_body(&out, &mut random);
+    for cuts in every_cut {
         let mut pair = pair.clone();
         let (mut work, mut reply) = ([0; LEAST_WORK], [0; LEAST_REPLY]);
         let pieces = [
@@ -81,6 +83,16 @@ fn a_submit_arrives_with_its_last_byte() {
 }
 
 #[test]
+fn a_submit_arrives_with_its_last_byte() {
+    arrives_in_pieces(
+        64,
+        0,
+        &[[10, 20], [20, 60], [48, 111], [70, 100], [111, 112]],
+    );
+    arrives_in_pieces(64, 2, &[[48, 112], [112, 143], [120, 130], [143, 144]]);
+}
+
+#[test]
 fn what_is_no_longer_pending_is_not_listed() {
     let (mut pair, devid) = arrived(&[1, 2, 3, 4]);
     let completion = Completion {
@@ -89,7 +101,7 @@ fn what_is_no_longer_pending_is_not_listed() {
         actual: 0,
         payload: &[],
     };
-    pair.complete(&completion, &mut [0; HEADER_SIZE]).unwrap();
+    pair.complete(&completion, &mut [0; LEAST_HEADER]).unwrap();
     assert_eq!(stale(&pair, 100, 0), [1, 3, 4]);
     pair.stream_at(5, &unlink(9, devid, 3));
     assert_eq!(stale(&pair, 100, 0), [1, 4]);

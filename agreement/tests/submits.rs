@@ -1,14 +1,15 @@
 //! What is said to a submit whose last byte is in, up to the last ticket. No run of a test could come that far, so the
 //! counts of a session are set to where it would be.
 
-use agreement::client::submit;
+use agreement::client::{submit, with_packets};
 use agreement::pair::Pair;
 use agreement::reached::Reached;
 use agreement::tables::table;
+use reference::packets::Packet;
 use reference::random::Random;
 use reference::session::{refuses_submit, LEAST_REPLY, LEAST_WORK, MAX_PENDING};
 use reference::wire::{op_req_import, CmdSubmit};
-use rimemaple::{Event, Session, HEADER_LEN};
+use rimemaple::{Event, Session, HEADER_LEN, HEADER_ROOM};
 
 /// A seqnum that no pending URB has.
 const SEQNUM: u32 = 1_000;
@@ -33,18 +34,54 @@ fn moved_on(session: &Session, devid: u32, accepted: u64) -> Session {
     Session::from(moved)
 }
 
-fn event(session: &mut Session, submit: &CmdSubmit) -> Event {
+fn event(session: &mut Session, message: &[u8]) -> Event {
     let (mut work, mut reply) = ([0; LEAST_WORK], [0; LEAST_REPLY]);
-    let fed = session.feed(&submit.header(), &mut work, &mut reply, 0);
+    let fed = session.feed(message, &mut work, &mut reply, 0);
     fed.expect("the session's parts fit together").event
 }
 
-/// Compares what is said to a submit, and tells it.
-fn compare(session: &Session, submit: &CmdSubmit, attached: u32, accepted: u64) -> &'static str {
+/// None, and packets that lie in 64 bytes, one that overlaps the first, and one past the end.
+const PACKETS: [&[Packet]; 4] = [
+    &[],
+    &[
+        Packet {
+            offset: 0,
+            length: 32,
+        },
+        Packet {
+            offset: 32,
+            length: 32,
+        },
+    ],
+    &[
+        Packet {
+            offset: 0,
+            length: 32,
+        },
+        Packet {
+            offset: 31,
+            length: 32,
+        },
+    ],
+    &[Packet {
+        offset: 64,
+        length: 1,
+    }],
+];
+
+/// Compares what is said to a submit of these packets, and tells it.
+fn compare(
+    session: &Session,
+    submit: &CmdSubmit,
+    packets: &[Packet],
+    attached: u32,
+    accepted: u64,
+) -> &'static str {
     let pending = session.as_sys().pending.count;
     let mut session = moved_on(session, attached, accepted);
-    let event = event(&mut session, submit);
-    let status = refuses_submit(submit, attached, pending, accepted);
+    let message = with_packets(submit, packets, &mut Random::new(accepted));
+    let event = event(&mut session, &message);
+    let status = refuses_submit(submit, packets, attached, pending, accepted);
     let same = match (status, event) {
         (None, Event::Submit { ticket, .. }) => ticket == accepted + 1,
         (Some(expected), Event::Answer { seqnum, status }) => {
@@ -64,7 +101,10 @@ fn compare(session: &Session, submit: &CmdSubmit, attached: u32, accepted: u64) 
         None if accepted == u64::MAX - 1 => "accepted with the last ticket",
         None => "accepted",
         Some(-19) => "-19",
-        Some(-22) => "-22",
+        Some(-22) if submit.ep > 15 => "-22: ep",
+        Some(-22) if pending == MAX_PENDING => "-22: packets, and 32 are pending",
+        Some(-22) if accepted == u64::MAX => "-22: packets, and no ticket is left",
+        Some(-22) => "-22: packets",
         Some(-12) if pending == MAX_PENDING => "-12: 32 are pending",
         Some(-12) if accepted == u64::MAX => "-12: no ticket is left",
         Some(other) => panic!("status {other}"),
@@ -77,16 +117,18 @@ fn statuses_in_their_order_up_to_the_last_ticket() {
     let mut reached = Reached::default();
     for pending in [0, 1, 31, 32] {
         let session = with_pending(&mut random, pending);
-        for _ in 0..200 {
+        for round in 0..200 {
             let attached = 1 + random.next_u32() / 2;
+            let packets = PACKETS[round % PACKETS.len()];
             for devid in [attached, attached ^ 1, attached ^ 0x1_0000, 0, u32::MAX] {
                 for ep in [0, 1, 15, 16, 17, 0x100, u32::MAX] {
                     for accepted in [32, 33, 1 << 32, 1 << 63, u64::MAX - 1, u64::MAX] {
                         let submit = CmdSubmit {
                             ep,
+                            number_of_packets: packets.len() as u32,
                             ..submit(SEQNUM, devid)
                         };
-                        reached.add(compare(&session, &submit, attached, accepted));
+                        reached.add(compare(&session, &submit, packets, attached, accepted));
                     }
                 }
             }
@@ -96,7 +138,10 @@ fn statuses_in_their_order_up_to_the_last_ticket() {
         "accepted",
         "accepted with the last ticket",
         "-19",
-        "-22",
+        "-22: ep",
+        "-22: packets",
+        "-22: packets, and 32 are pending",
+        "-22: packets, and no ticket is left",
         "-12: 32 are pending",
         "-12: no ticket is left",
     ]);
@@ -108,7 +153,7 @@ fn the_last_ticket_is_given_once() {
     let devid = random.next_u32();
     let waiting = with_pending(&mut random, 0);
     let mut session = moved_on(&waiting, devid, u64::MAX - 1);
-    let last = event(&mut session, &submit(1, devid));
+    let last = event(&mut session, &submit(1, devid).header());
     assert!(
         matches!(
             last,
@@ -123,11 +168,11 @@ fn the_last_ticket_is_given_once() {
         seqnum: 2,
         status: -12,
     };
-    assert_eq!(event(&mut session, &submit(2, devid)), none_left);
-    let returned = session.complete(u64::MAX, 0, 0, &[], &mut [0; HEADER_LEN]);
+    assert_eq!(event(&mut session, &submit(2, devid).header()), none_left);
+    let returned = session.complete(u64::MAX, 0, 0, &[], &mut [0; HEADER_ROOM]);
     let length = returned.map(|returned| returned.length);
     assert_eq!(length, Ok(HEADER_LEN as u64));
-    assert_eq!(event(&mut session, &submit(2, devid)), none_left);
+    assert_eq!(event(&mut session, &submit(2, devid).header()), none_left);
     let numbers = session.numbers();
     assert_eq!((numbers.accepted, numbers.returned), (u64::MAX, u64::MAX));
     assert_eq!(session.close().as_deref(), Ok(&[][..]));

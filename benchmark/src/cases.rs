@@ -1,8 +1,8 @@
 //! The cases that are timed.
 
-use crate::message::{refused_submit, submit_in, submit_out, unlink};
+use crate::message::{iso_in, iso_out, refused_iso, refused_submit, submit_in, submit_out, unlink};
 use crate::rounds::Rounds;
-use rimemaple::MAX_TRANSFER;
+use rimemaple::{MAX_PACKETS, MAX_TRANSFER};
 
 pub struct Case {
     pub name: &'static str,
@@ -22,7 +22,7 @@ const WHOLE: usize = usize::MAX;
 
 #[rustfmt::skip]
 pub fn cases() -> Vec<Case> {
-    let (header, out) = (unlink(), refused_submit(MAX_TRANSFER));
+    let (header, out, iso) = (unlink(), refused_submit(MAX_TRANSFER), refused_iso());
     vec![
         case("hungry feed, empty piece", UP_TO_31, feeds(&header, 0)),
         case("feed of a header, 1 byte a piece", NONE, feeds(&header, 1)),
@@ -31,13 +31,18 @@ pub fn cases() -> Vec<Case> {
         case("feed of OUT of 16,384, 1,460 bytes a piece", NONE, feeds(&out, 1_460)),
         case("feed of OUT of 16,384, 4,096 bytes a piece", NONE, feeds(&out, 4_096)),
         case("feed of OUT of 16,384 whole (answered -22)", NONE, feeds(&out, WHOLE)),
+        case("feed of 32 packets, 16 bytes a piece", NONE, feeds(&iso, 16)),
+        case("feed of 32 packets whole (answered -22)", NONE, feeds(&iso, WHOLE)),
         case("OUT of 64, fed and completed", NONE, completed(submit_out, 64)),
         case("OUT of 16,384, fed and completed", NONE, completed(submit_out, MAX_TRANSFER)),
         case("IN of 64, fed and completed", OTHERS, completed(submit_in, 64)),
         case("IN of 16,384, fed and completed", NONE, completed(submit_in, MAX_TRANSFER)),
+        case("IN of 32 packets, fed and completed", OTHERS, in_packets(iso_in())),
+        case("OUT of 32 packets, fed and completed", NONE, in_packets(iso_out())),
         case("completion of none that is pending", UP_TO_32, Rounds::Missed),
         case("IN of 64, fed and unlinked (two feeds)", UP_TO_31, unlinked(64)),
-        case("sending step, 1,460 of 16,432 bytes", NONE, sent(1_460)),
+        case("sending step, 1,460 of 16,432 bytes", NONE, sent(0, 1_460)),
+        case("sending step, 1,460 of 16,944 bytes", NONE, sent(MAX_PACKETS, 1_460)),
     ]
 }
 
@@ -61,6 +66,11 @@ fn completed(submit: fn(usize) -> Vec<u8>, length: usize) -> Rounds {
     }
 }
 
+fn in_packets(submit: Vec<u8>) -> Rounds {
+    let data = vec![3; MAX_TRANSFER];
+    Rounds::Packets { submit, data }
+}
+
 fn unlinked(length: usize) -> Rounds {
     Rounds::Unlinks {
         submit: submit_in(length),
@@ -68,7 +78,11 @@ fn unlinked(length: usize) -> Rounds {
     }
 }
 
-fn sent(most: usize) -> Rounds {
+fn sent(packets: usize, most: usize) -> Rounds {
     let data = vec![3; MAX_TRANSFER];
-    Rounds::Parts { data, most }
+    Rounds::Parts {
+        data,
+        packets,
+        most,
+    }
 }

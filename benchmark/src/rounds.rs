@@ -3,7 +3,7 @@
 
 use crate::exporter::Exporter;
 use crate::message;
-use rimemaple::{HEADER_LEN, REPLY_LEN, WORK_LEN};
+use rimemaple::{HEADER_ROOM, MAX_PACKETS, REPLY_LEN, WORK_LEN};
 use std::hint::black_box;
 
 pub enum Rounds {
@@ -11,12 +11,18 @@ pub enum Rounds {
     Pieces { message: Vec<u8>, size: usize },
     /// A submit and its completion.
     Exchanges { submit: Vec<u8>, data: Vec<u8> },
+    /// An isochronous submit of all the packets that there can be, and its completion.
+    Packets { submit: Vec<u8>, data: Vec<u8> },
     /// A completion of a ticket above those that are pending: refused, so nothing changes.
     Missed,
     /// A submit and its unlink.
     Unlinks { submit: Vec<u8>, unlink: Vec<u8> },
     /// A sending step.
-    Parts { data: Vec<u8>, most: usize },
+    Parts {
+        data: Vec<u8>,
+        packets: usize,
+        most: usize,
+    },
 }
 
 #[derive(PartialEq, Eq)]
@@ -31,7 +37,7 @@ impl Buffers {
         Buffers {
             work: vec![0; WORK_LEN],
             reply: vec![0; REPLY_LEN],
-            header: vec![0; HEADER_LEN],
+            header: vec![0; HEADER_ROOM],
         }
     }
 }
@@ -42,9 +48,14 @@ pub fn run<E: Exporter>(rounds: &Rounds, pending: u32, count: u64, b: &mut Buffe
     match rounds {
         Rounds::Pieces { message, size } => pieces(session, count, message, *size, b),
         Rounds::Exchanges { submit, data } => exchanges(session, count, submit, data, b),
+        Rounds::Packets { submit, data } => packets(session, count, submit, data, b),
         Rounds::Missed => missed(session, count, u64::from(pending) + 1, b),
         Rounds::Unlinks { submit, unlink } => unlinks(session, count, submit, unlink, b),
-        Rounds::Parts { data, most } => parts::<E>(count, data, *most, b),
+        Rounds::Parts {
+            data,
+            packets,
+            most,
+        } => parts::<E>(count, data, *packets, *most, b),
     }
 }
 
@@ -93,6 +104,27 @@ fn exchanges(
     sum
 }
 
+fn packets<E: Exporter>(
+    mut session: E,
+    count: u64,
+    submit: &[u8],
+    data: &[u8],
+    b: &mut Buffers,
+) -> u64 {
+    let results: Vec<E::Result> = (0..MAX_PACKETS)
+        .map(|_| E::result(message::PACKET_LEN))
+        .collect();
+    let total = data.len() as u32;
+    let mut sum = 0;
+    for _ in 0..count {
+        let fed = session.feed(black_box(submit), &mut b.work, &mut b.reply);
+        let ticket = fed.ticket.expect("the submit is accepted");
+        let (results, data) = (black_box(&results), black_box(data));
+        sum += session.complete_iso(ticket, total, results, data, &mut b.header);
+    }
+    sum
+}
+
 fn missed(mut session: impl Exporter, count: u64, ticket: u64, b: &mut Buffers) -> u64 {
     let refusals = (0..count).map(|_| session.refuses(black_box(ticket), &mut b.header));
     refusals.sum()
@@ -115,7 +147,13 @@ fn unlinks(
     sum
 }
 
-fn parts<E: Exporter>(count: u64, data: &[u8], most: usize, b: &mut Buffers) -> u64 {
+fn parts<E: Exporter>(
+    count: u64,
+    data: &[u8],
+    packets: usize,
+    most: usize,
+    b: &mut Buffers,
+) -> u64 {
     let mut sum = 0;
     let mut sent = 0;
     for _ in 0..count {
@@ -123,6 +161,7 @@ fn parts<E: Exporter>(count: u64, data: &[u8], most: usize, b: &mut Buffers) -> 
             black_box(&b.header),
             black_box(data),
             data.len(),
+            packets,
             sent,
             most,
         );

@@ -1,9 +1,13 @@
-/* Linux's gadget zero, for the driver usbtest: a source of zeros on 0x81, a sink on 0x02, and a buffer that control
-   transfers write and read back. */
+/* Linux's gadget zero, for the driver usbtest: sources of zeros on 0x81 and, isochronous, 0x83, sinks on 0x02 and 0x04,
+   and a buffer that control transfers write and read back. All endpoints are in one setting, since the driver takes
+   the first that has some. */
 #include "control.h"
 #include "usb.h"
 
 #include <string.h>
+
+#define ISO_IN 3
+#define ISO_OUT 4
 
 #define WRITE_BUFFER 0x5b
 #define READ_BUFFER 0x5c
@@ -14,10 +18,12 @@ static const uint8_t descriptor[DEVICE_DESCRIPTOR_LEN] = {
 };
 
 static const uint8_t configuration[] = {
-    9, DT_CONFIGURATION, LE16(32), 1, 1, 0, 0x80, 50,
-    9, DT_INTERFACE, 0, 0, 2, 0xff, 0, 0, 0,
+    9, DT_CONFIGURATION, LE16(46), 1, 1, 0, 0x80, 50,
+    9, DT_INTERFACE, 0, 0, 4, 0xff, 0, 0, 0,
     7, DT_ENDPOINT, EP_IN | 1, EP_BULK, LE16(512), 0,
-    7, DT_ENDPOINT, 2, EP_BULK, LE16(512), 0
+    7, DT_ENDPOINT, 2, EP_BULK, LE16(512), 0,
+    7, DT_ENDPOINT, EP_IN | ISO_IN, EP_ISOCHRONOUS, LE16(512), 1,
+    7, DT_ENDPOINT, ISO_OUT, EP_ISOCHRONOUS, LE16(512), 1
 };
 
 struct state {
@@ -50,6 +56,16 @@ static void endpoint(struct device *device, struct urb *urb)
         urb_answer(device, urb, urb->length);
 }
 
+/* Every packet comes and goes whole. */
+static void isochronous(struct device *device, struct urb *urb)
+{
+    if (urb->ep == (urb->direction == RIMEMAPLE_DIR_IN ? ISO_IN : ISO_OUT))
+        for (uint32_t i = 0; i < urb->packets; i++)
+            urb_packet(device, urb, urb->iso[i].length, 0);
+    else
+        urb_stall(device, urb);
+}
+
 const struct model zero = {
     .name = "zero",
     .descriptor = descriptor,
@@ -57,5 +73,6 @@ const struct model zero = {
     .configuration_length = sizeof configuration,
     .state_length = sizeof(struct state),
     .control = control,
-    .endpoint = endpoint
+    .endpoint = endpoint,
+    .isochronous = isochronous
 };

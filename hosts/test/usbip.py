@@ -5,6 +5,7 @@ import struct
 
 OUT, IN = 0, 1
 HEADER_LEN = 48
+DESCRIPTOR = struct.Struct(">IIIi")     # of a packet: offset, length, actual_length, status
 
 
 class Disorder(Exception):
@@ -12,10 +13,18 @@ class Disorder(Exception):
 
 
 class Returned:
-    """What came of a submit: its status, actual length and data."""
+    """What came of a submit: its status, actual length, error count and data, and the descriptors of its packets."""
 
-    def __init__(self, seqnum, status, actual, data):
-        self.seqnum, self.status, self.actual, self.data = seqnum, status, actual, data
+    def __init__(self, header, data, packets):
+        self.seqnum, self.status, self.actual, self.errors = (header[i] for i in (1, 5, 6, 9))
+        self.data, self.packets = data, packets
+
+
+class Pending:
+    """A submit: what its reply must repeat, and whether data comes with it."""
+
+    def __init__(self, direction, start, packets):
+        self.direction, self.start, self.packets = direction, start, packets
 
 
 def device_record(record):
@@ -34,7 +43,7 @@ class Client:
         self.socket.settimeout(5)
         self.devid = 0
         self.seqnum = 0
-        self.pending = {}   # direction of each submit, by seqnum
+        self.pending = {}   # by seqnum
         self.unlinks = {}   # seqnum to cancel, by the unlink's own
         self.returned = {}
         self.unlinked = {}
@@ -83,12 +92,15 @@ class Client:
         self.seqnum += 1
         return self.seqnum
 
-    def submit(self, direction, ep, length, data=b"", setup=bytes(8), seqnum=None, packets=0, flags=0):
+    def submit(self, direction, ep, length, data=b"", setup=bytes(8), seqnum=None, packets=(), flags=0, devid=None):
+        """A submit; an isochronous one has packets, an offset and a length each."""
         seqnum = self.next_seqnum() if seqnum is None else seqnum
-        header = struct.pack(">10I8s", 1, seqnum, self.devid, direction, ep, flags, length, 0, packets, 0, setup)
-        self.pending[seqnum] = direction
+        start = seqnum if packets else 0
+        header = struct.pack(">10I8s", 1, seqnum, self.devid if devid is None else devid, direction, ep, flags, length,
+                             start, len(packets), 0, setup)
+        self.pending[seqnum] = Pending(direction, start, packets)
         self.returned.pop(seqnum, None)
-        self.send(header + data)
+        self.send(header + data + b"".join(DESCRIPTOR.pack(offset, count, 0, 0) for offset, count in packets))
         return seqnum
 
     def unlink(self, victim):
@@ -99,18 +111,30 @@ class Client:
 
     def reply(self):
         """Takes the next reply."""
-        header = self.receive(HEADER_LEN)
-        command, seqnum, devid, direction, ep, status, actual = struct.unpack_from(">5IiI", header)
-        if (devid, direction, ep) != (0, 0, 0):
-            raise Disorder(f"header {header.hex()}")
+        header = struct.unpack(">5Ii6I", self.receive(HEADER_LEN))
+        command, seqnum = header[:2]
+        if header[2:5] != (0, 0, 0) or header[10:] != (0, 0):
+            raise Disorder(f"header {header}")
         if command == 3 and seqnum in self.pending:
-            data = self.receive(actual) if self.pending.pop(seqnum) == IN else b""
-            self.returned[seqnum] = Returned(seqnum, status, actual, data)
+            self.take_return(header, self.pending.pop(seqnum))
         elif command == 4 and seqnum in self.unlinks:
-            self.take_unlink(seqnum, status)
+            self.take_unlink(seqnum, header[5])
         else:
             raise Disorder(f"command {command} seqnum {seqnum}")
         return seqnum
+
+    def take_return(self, header, submit):
+        """Data for IN, then the packets' descriptors: those that were sent, with lengths that make up the whole."""
+        seqnum, actual, start, count = (header[i] for i in (1, 6, 7, 8))
+        if (start, count) != (submit.start, len(submit.packets)):
+            raise Disorder(f"start {start}, {count} packets of {seqnum}")
+        data = self.receive(actual) if submit.direction == IN else b""
+        packets = [DESCRIPTOR.unpack(self.receive(DESCRIPTOR.size)) for _ in submit.packets]
+        if [packet[:2] for packet in packets] != list(submit.packets):
+            raise Disorder(f"packets of {seqnum}: {packets}")
+        if packets and sum(packet[2] for packet in packets) != actual:
+            raise Disorder(f"actual lengths of {seqnum}: {packets}, {actual} in all")
+        self.returned[seqnum] = Returned(header, data, packets)
 
     def take_unlink(self, seqnum, status):
         """-104: its submit is never answered. 0: it was answered before, so nothing is pending under that number."""

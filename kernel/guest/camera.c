@@ -1,9 +1,12 @@
 /*
- * Pictures of the camera model through uvcvideo: each has its number in its first four bytes, and the rest follows from
+ * Pictures of a camera model through uvcvideo: each has its number in its first four bytes, and the rest follows from
  * that.
  *
  * The driver numbers the pictures of a stream as they come (sequence), but it copies them on several CPUs, and may hand
  * two of them out the wrong way round. So what must hold is that the camera's numbers and the driver's go side by side.
+ *
+ * Of the isochronous camera each picture whose number is a multiple of DAMAGED loses a packet. The driver is told so by
+ * the packet's status alone, and drops the picture.
  */
 #include "guest.h"
 
@@ -32,7 +35,8 @@ struct stream {
 };
 
 struct tally {
-    int right, wrong, misplaced;
+    int right, wrong, misplaced, damaged, dropped;
+    int losing;      /* DAMAGED, or 0 */
     int64_t first;   /* the camera's number of the stream's picture 0; -1 before the stream's first picture */
     int64_t highest; /* number so far */
 };
@@ -115,6 +119,7 @@ static void look(const uint8_t *picture, const struct v4l2_buffer *b, struct tal
     else
         t->wrong++;
     t->misplaced += !in_place(number, b->sequence, t);
+    t->damaged += t->losing > 0 && number % t->losing == 0;
 }
 
 static bool take(struct stream *s, struct tally *t)
@@ -130,20 +135,30 @@ static bool take(struct stream *s, struct tally *t)
     return came;
 }
 
+/* A stream of so many pictures. What the driver left out of its numbers it dropped. */
+static void take_stream(const char *path, int count, struct tally *t)
+{
+    struct stream s = start(path);
+    int taken = 0;
+
+    t->first = -1;
+    while (taken < count && take(&s, t))
+        taken++;
+    t->dropped += taken > 0 ? t->highest - t->first + 1 - taken : 0;
+    stop(&s);
+}
+
 int pictures(char **words)
 {
-    struct tally t = {.highest = -1};
+    struct tally t = {.highest = -1, .losing = words[3] ? atoi(words[3]) : 0};
     int rounds = atoi(words[1]);
 
-    for (int i = 0; i < rounds; i++) {
-        struct stream s = start(words[0]);
-        int left = atoi(words[2]);
-
-        t.first = -1;
-        while (left > 0 && take(&s, &t))
-            left--;
-        stop(&s);
-    }
-    printf("pictures: %d right, %d wrong, %d misplaced\n", t.right, t.wrong, t.misplaced);
+    for (int i = 0; i < rounds; i++)
+        take_stream(words[0], atoi(words[2]), &t);
+    if (t.losing)
+        printf("pictures in packets: %d right, %d wrong, %d misplaced, %d damaged, %d dropped\n", t.right, t.wrong,
+               t.misplaced, t.damaged, t.dropped);
+    else
+        printf("pictures: %d right, %d wrong, %d misplaced\n", t.right, t.wrong, t.misplaced);
     return 0;
 }

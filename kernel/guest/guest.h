@@ -42,11 +42,12 @@ uint32_t fnv(uint32_t sum, uint8_t byte);
 /* ---- the tests: each has its words of the command line ---- */
 
 int vendor(char **words);    /* LARGEST_WRITE RACES */
-int too_long(char **words);
 int isochronous(char **words);
+int too_long(char **words);
+int too_many_packets(char **words);
 int echo(char **words);      /* TTY BYTES */
 int flood(char **words);     /* TTY MILLISECONDS */
-int pictures(char **words);  /* VIDEO ROUNDS PICTURES_OF_EACH */
+int pictures(char **words);  /* VIDEO ROUNDS PICTURES_OF_EACH [DAMAGED] */
 int usbtest(char **words);   /* CASE[:ITERATIONS[:LENGTH[:VARY[:SGLEN]]]]... */
 
 #endif

@@ -9,7 +9,7 @@
 #define BULK_IN 0x81
 #define ISOCHRONOUS_IN 0x84
 #define OVER_LENGTH 16385
-#define PACKETS 4
+#define OVER_PACKETS 33
 #define PACKET_LENGTH 64
 #define REAP_MS 5000
 
@@ -33,16 +33,16 @@ int too_long(char **words)
     return over(fd, usbfs_bulk(BULK_IN, OVER_LENGTH), "a read of 16385 bytes");
 }
 
-int isochronous(char **words)
+int too_many_packets(char **words)
 {
     int fd = usbfs_open(VENDOR_PRODUCT);
-    struct usbdevfs_urb *urb = usbfs_urb(USBDEVFS_URB_TYPE_ISO, ISOCHRONOUS_IN, PACKETS * PACKET_LENGTH);
+    struct usbdevfs_urb *urb = usbfs_urb(USBDEVFS_URB_TYPE_ISO, ISOCHRONOUS_IN, OVER_PACKETS * PACKET_LENGTH);
 
     (void)words;
     usbfs_claim(fd);
     urb->flags = USBDEVFS_URB_ISO_ASAP;
-    urb->number_of_packets = PACKETS;
-    for (int i = 0; i < PACKETS; i++)
+    urb->number_of_packets = OVER_PACKETS;
+    for (int i = 0; i < OVER_PACKETS; i++)
         urb->iso_frame_desc[i].length = PACKET_LENGTH;
-    return over(fd, urb, "an isochronous read");
+    return over(fd, urb, "a read of 33 packets");
 }

@@ -12,8 +12,9 @@ static const struct test {
     int (*run)(char **words);
 } TESTS[] = {
     {"vendor", 2, vendor},
-    {"too-long", 0, too_long},
     {"isochronous", 0, isochronous},
+    {"too-long", 0, too_long},
+    {"too-many-packets", 0, too_many_packets},
     {"echo", 2, echo},
     {"flood", 2, flood},
     {"pictures", 3, pictures},

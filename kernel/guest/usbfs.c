@@ -12,7 +12,7 @@
 
 #define DEVICES "/sys/bus/usb/devices"
 #define CONTROL_MS 3000
-#define MAX_PACKETS 8
+#define MAX_PACKETS 33
 
 /* Requests of the host's models. */
 #define IN_VENDOR 0xc0

@@ -11,11 +11,12 @@
 #define BULK_OUT 0x02
 #define SILENT_IN 0x85 /* never answers */
 #define AT_ONCE 24
+#define ROUNDS 20 /* of reads at once, at most, until one overtakes another: in a slow guest few do */
 #define CROWD 40 /* more than the 32 that a session keeps pending */
 #define RACE_LENGTH 512
 #define RACE_US 6000 /* about as long as a read takes */
 #define REAP_MS 3000
-#define SILENCE_MS 500 /* after which no more is expected */
+#define SILENCE_MS 1500 /* after which no more is expected */
 
 /* Around the sizes of a header, of a packet and of the largest transfer. */
 static const int LENGTHS[AT_ONCE] = {
@@ -44,29 +45,44 @@ static bool read_right(const struct usbdevfs_urb *urb, uint32_t k)
     return right;
 }
 
-static void reads(int fd)
+struct outcome {
+    int right, wrong, overtaken;
+};
+
+/* Reads at once, which are the device's own from number first on. */
+static void read_round(int fd, intptr_t first, struct outcome *o)
 {
-    int right = 0, wrong = 0, overtaken = 0;
     intptr_t highest = -1;
+    int left = AT_ONCE;
 
     for (intptr_t k = 0; k < AT_ONCE; k++) {
         struct usbdevfs_urb *urb = usbfs_bulk(BULK_IN, LENGTHS[k]);
 
-        urb->usercontext = (void *)k;
+        urb->usercontext = (void *)(first + k);
         usbfs_submit(fd, urb);
     }
-    for (struct usbdevfs_urb *urb; right + wrong < AT_ONCE && (urb = usbfs_reap(fd, REAP_MS));) {
+    for (struct usbdevfs_urb *urb; left > 0 && (urb = usbfs_reap(fd, REAP_MS)); left--) {
         intptr_t k = (intptr_t)urb->usercontext;
 
         if (read_right(urb, k))
-            right++;
+            o->right++;
         else
-            wrong++;
-        overtaken += k < highest;
+            o->wrong++;
+        o->overtaken += k < highest;
         highest = k > highest ? k : highest;
         usbfs_free(urb);
     }
-    printf("reads at once: %d right, %d wrong, %d overtaken\n", right, wrong, overtaken);
+}
+
+static void reads(int fd)
+{
+    struct outcome o = {0, 0, 0};
+    int count = 0;
+
+    for (; count < ROUNDS * AT_ONCE && o.overtaken == 0; count += AT_ONCE)
+        read_round(fd, count, &o);
+    printf("%d reads, 24 at once: %d missing, %d wrong, %d overtaken\n", count, count - o.right - o.wrong, o.wrong,
+           o.overtaken);
 }
 
 static struct usbdevfs_urb *filled(int length, uint32_t k, uint32_t *sum)

@@ -38,6 +38,11 @@ configured() { [ "$(cat "$(device "$1")/bNumInterfaces")" -eq "$(interfaces "$1"
 
 gone() { [ ! -e "$(device "$1")" ]; }
 
+# video PORT: the picture device of the camera there; behind it the driver has one for metadata.
+video() { echo "/dev/$(ls "$(device "$1"):1.0/video4linux" | head -n 1)"; } 2> /dev/null
+
+filming() { [ -c "$(video "$1")" ]; }
+
 # describe NAME PORT: what enumeration made of the device at a port of the virtual controller.
 describe() {
     local d=$(device "$2")

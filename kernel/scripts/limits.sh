@@ -1,4 +1,4 @@
-# What real drivers ask for and this engine doesn't have: longer transfers, more pending URBs, isochronous ones.
+# What real drivers ask for and this engine doesn't have: longer transfers, more pending URBs, more packets.
 . /scripts/functions.sh
 
 echo "== a read of 16,385 bytes"
@@ -8,11 +8,11 @@ within 30 configured 0
 guest too-long
 within 10 gone 0
 
-echo "== an isochronous read"
-serve isochronous 3242 --devices vendor
+echo "== an isochronous read of 33 packets"
+serve packets 3242 --devices vendor
 attach 3242 1-1
 within 30 configured 0
-guest isochronous
+guest too-many-packets
 within 10 gone 0
 
 echo "== usb-storage with transfers as the kernel has them"

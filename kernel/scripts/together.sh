@@ -1,8 +1,8 @@
-# What must work: listing, attaching, and five devices at once, each over a session with a host of its own.
+# What must work: listing, attaching, and six devices at once, each over a session with a host of its own.
 . /scripts/functions.sh
 
 echo "== one host with several devices"
-serve several 3240 --devices vendor,serial,disk,camera,zero,ethernet
+serve several 3240 --devices vendor,serial,disk,camera,zero,ethernet,isocamera
 usbip list -r 127.0.0.1
 attach 3240 9-9
 attach 3240 1-2
@@ -16,9 +16,9 @@ detach 1
 within 10 gone 0
 within 10 gone 1
 
-echo "== five hosts with one device each"
+echo "== six hosts with one device each"
 port=0
-for model in vendor serial disk camera zero; do
+for model in vendor serial disk camera zero isocamera; do
     serve $model $((3241 + port)) --devices $model --cuts --late
     attach $((3241 + port)) 1-1
     within 30 configured $port
@@ -27,7 +27,8 @@ for model in vendor serial disk camera zero; do
 done
 within 30 test -c /dev/ttyACM0
 within 30 test -b /dev/sda
-within 30 test -c /dev/video0
+within 30 filming 3
+within 30 filming 5
 
 # At most what a session transfers at once, 16,384 bytes.
 echo 16 > /sys/block/sda/queue/max_sectors_kb
@@ -48,14 +49,21 @@ begin() {
 }
 
 # All are done; or the kernel has hung up on a device, and what waits for that one may wait for ever.
-lost() { grep 'the client is gone' /out/vendor/log /out/serial/log /out/disk/log /out/camera/log /out/zero/log; }
-over() { lost || [ "$(ls /tmp/*.done 2> /dev/null | wc -l)" -eq 5 ]; }
+lost() { grep 'the client is gone' /out/vendor/log /out/serial/log /out/disk/log /out/*camera/log /out/zero/log; }
+over() { lost || [ "$(ls /tmp/*.done 2> /dev/null | wc -l)" -eq 6 ]; }
 
-begin vendor guest vendor 16384 300
+vendor() {
+    guest vendor 16384 300
+    guest isochronous
+}
+
+begin vendor vendor
 begin serial guest echo /dev/ttyACM0 60000
 begin disk disk
-begin camera guest pictures /dev/video0 10 30
-begin zero guest usbtest 1:50 2:50 3:50 4:50 5:20 6:20 9:10 10:30:1024:512:16 11:20:512 12:20:512 24:10:512:0:16
+begin camera guest pictures "$(video 3)" 10 30
+begin isocamera guest pictures "$(video 5)" 10 30 8
+begin zero guest usbtest 1:50 2:50 3:50 4:50 5:20 6:20 9:10 10:30:1024:512:16 11:20:512 12:20:512 24:10:512:0:16 \
+    15:20:16384:0:4 16:20:16000:0:4 22:20:1000:0:4 23:20:1000:0:4
 within "$LIMIT" over
 cat /tmp/*.said
 lost && exit 1
@@ -63,5 +71,5 @@ lost && exit 1
 echo "== detached with reads pending"
 cat /dev/ttyACM0 > /dev/null &
 sleep 1
-for n in 0 1 2 3 4; do detach $n; done
-for n in 0 1 2 3 4; do within 10 gone $n; done
+for n in 0 1 2 3 4 5; do detach $n; done
+for n in 0 1 2 3 4 5; do within 10 gone $n; done

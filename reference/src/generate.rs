@@ -109,7 +109,9 @@ mod tests {
             " length=16385",
             " ep=15",
             " ep=16",
-            "raw 433e4031",
+            "raw 433e4231",
+            " packets=32",
+            " packets=33",
             " actual=16384",
             " actual=16385",
         ] {

@@ -4,8 +4,10 @@
 //! vectors, and one copy of every reply.
 
 pub mod capture;
+pub mod causes;
 pub mod generate;
 pub mod hex;
+pub mod packets;
 pub mod random;
 pub mod refusal;
 pub mod report;

@@ -10,7 +10,8 @@ pub enum Refusal {
     Closed = 3,
     NotPending = 4,
     PositiveStatus = 5,
-    ActualLength = 6,
+    /// The completion doesn't fit its URB.
+    Misfit = 6,
     ShortData = 7,
 }
 

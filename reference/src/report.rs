@@ -1,9 +1,10 @@
 //! Playing a tape: the lines of `replay`, and those of `trace`, which show every byte.
 
 use crate::hex;
-use crate::session::{Event, Fed, Returned, Session, Urb, LEAST_REPLY, LEAST_WORK};
-use crate::tape::{self, Completion, Item, Reader, Record};
-use crate::wire::{HEADER_SIZE, USBIP_DIR_OUT};
+use crate::refusal::Refusal;
+use crate::session::{Event, Fed, Returned, Session, Urb, LEAST_HEADER, LEAST_REPLY, LEAST_WORK};
+use crate::tape::{self, Completion, IsoCompletion, Item, Reader, Record};
+use crate::wire::{DESCRIPTOR_SIZE, HEADER_SIZE, USBIP_DIR_OUT};
 use std::io::{self, Read, Write};
 
 /// Plays the tape and writes what happened.
@@ -62,6 +63,7 @@ impl<W: Write> Player<W> {
         match record {
             Record::Stream(piece) => self.feed(piece),
             Record::Complete(completion) => self.complete(completion),
+            Record::CompleteIso(completion) => self.complete_iso(completion),
             Record::Close => self.close(),
         }
     }
@@ -90,25 +92,57 @@ impl<W: Write> Player<W> {
             actual_length,
         } = completion;
         let data = [0; tape::DEVICE_DATA_SIZE];
-        let mut header = [0; HEADER_SIZE];
+        let mut header = [0; LEAST_HEADER];
         let result = self
             .session
             .complete(ticket, status, actual_length, &data, &mut header);
+        self.write_return(ticket, actual_length, result)?;
+        self.write_header(result, &header[..HEADER_SIZE])
+    }
+
+    fn complete_iso(&mut self, completion: &IsoCompletion) -> io::Result<()> {
+        let &IsoCompletion {
+            ticket,
+            status,
+            ref results,
+        } = completion;
+        let total = completion.total();
+        let data = [0; tape::DEVICE_DATA_SIZE];
+        let mut header = [0; LEAST_HEADER];
+        let result = self
+            .session
+            .complete_iso(ticket, status, total, results, &data, &mut header);
+        self.write_return(ticket, total, result)?;
+        let written = HEADER_SIZE + results.len() * DESCRIPTOR_SIZE;
+        self.write_header(result, &header[..written])
+    }
+
+    fn write_return(
+        &mut self,
+        ticket: u64,
+        actual_length: u32,
+        result: Result<Returned, Refusal>,
+    ) -> io::Result<()> {
         match result {
             Ok(Returned { status, .. }) => {
-                writeln!(self.output, "return {ticket} {status} {actual_length}")?
+                writeln!(self.output, "return {ticket} {status} {actual_length}")
             }
-            Err(refusal) => writeln!(self.output, "refused {}", refusal.number())?,
+            Err(refusal) => writeln!(self.output, "refused {}", refusal.number()),
         }
-        if self.detail == Detail::Bytes {
-            match result {
-                Ok(Returned { length, .. }) => {
-                    writeln!(self.output, "header {length} {}", hex::encode(&header))?
-                }
-                Err(_) => writeln!(self.output, "header 0 -")?,
+    }
+
+    fn write_header(
+        &mut self,
+        result: Result<Returned, Refusal>,
+        written: &[u8],
+    ) -> io::Result<()> {
+        match result {
+            _ if self.detail == Detail::Lines => Ok(()),
+            Ok(Returned { length, .. }) => {
+                writeln!(self.output, "header {length} {}", hex::encode(written))
             }
+            Err(_) => writeln!(self.output, "header 0 -"),
         }
-        Ok(())
     }
 
     fn close(&mut self) -> io::Result<()> {
@@ -182,7 +216,19 @@ impl<W: Write> Player<W> {
             USBIP_DIR_OUT => &self.work[..urb.transfer_buffer_length as usize],
             _ => &[],
         };
-        writeln!(self.output, "data {}", hex_or_dash(data))
+        writeln!(self.output, "data {}", hex_or_dash(data))?;
+        self.write_packets(urb)
+    }
+
+    fn write_packets(&mut self, urb: &Urb) -> io::Result<()> {
+        if !urb.is_isochronous() {
+            return Ok(());
+        }
+        write!(self.output, "packets")?;
+        for packet in &urb.packets {
+            write!(self.output, " {} {}", packet.offset, packet.length)?;
+        }
+        writeln!(self.output)
     }
 
     fn write_end(&mut self) -> io::Result<()> {
@@ -207,6 +253,7 @@ fn hex_or_dash(bytes: &[u8]) -> String {
 mod tests {
     use super::*;
     use crate::capture::{self, bytes};
+    use crate::packets::PacketResult;
     use crate::wire::{op_req_devlist, op_req_import_of};
 
     fn played(play: fn(&[u8], &mut Vec<u8>) -> io::Result<()>, tape: &[u8]) -> String {
@@ -274,6 +321,43 @@ mod tests {
             capture::RET_INTR_IN.replace(' ', "")
         );
         assert_eq!(traced(&sample()), expected);
+    }
+
+    #[test]
+    fn an_isochronous_completion_with_every_byte() {
+        let submit = "00000001 00000007 0001000f 00000001 00000001 00000000 00000064 00000005 00000001 00000000 00000000 00000000";
+        let descriptor = "0000000a 00000014 00000000 00000000";
+        let results = vec![PacketResult {
+            actual_length: 19,
+            status: -71,
+        }];
+        let tape = tape_of(&[
+            Record::Stream(op_req_import_of("1-1")),
+            Record::Stream(bytes(&format!("{submit} {descriptor}"))),
+            Record::CompleteIso(IsoCompletion {
+                ticket: 1,
+                status: 0,
+                results,
+            }),
+        ]);
+        let header = "00000003 00000007 00000000 00000000 00000000 00000000 00000013 00000005 00000001 00000001 00000000 00000000";
+        let sent = "0000000a 00000014 00000013 ffffffb9";
+        let expected = format!(
+            "submit 1 7\n\
+             feed 64 0 -\n\
+             record 1 7 1 1 0 100 5 1 0 0000000000000000\n\
+             data -\n\
+             packets 10 20\n\
+             return 1 0 19\n\
+             header 83 {}\n\
+             end 1 0 1 0 0\n",
+            format!("{header}{sent}").replace(' ', "")
+        );
+        assert!(traced(&tape).ends_with(&expected), "{}", traced(&tape));
+        assert_eq!(
+            replayed(&tape),
+            "import 0\nsubmit 1 7\nreturn 1 0 19\nend 1 0 1 0 0\n"
+        );
     }
 
     #[test]

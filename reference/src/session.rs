@@ -1,20 +1,27 @@
 //! A session: one connection of the exporting end, and its pending URBs.
 
-use crate::refusal::{Break, Refusal, ECONNRESET, EINVAL, ENODEV, ENOMEM, EREMOTEIO};
+use crate::packets::{self, Packet, PacketResult};
+use crate::refusal::{Break, Refusal, ECONNRESET, EINVAL, ENODEV, ENOMEM};
 use crate::table::{self, Device};
 use crate::wire::{
-    self, be16, be32, CmdSubmit, CmdUnlink, Command, RetSubmit, HEADER_SIZE, NOT_ISOCHRONOUS,
-    OP_COMMON_SIZE, OP_REQ_IMPORT_SIZE, URB_SHORT_NOT_OK, USBIP_DIR_IN, USBIP_DIR_OUT,
+    self, be16, be32, CmdSubmit, CmdUnlink, Command, RetSubmit, DESCRIPTOR_SIZE, HEADER_SIZE,
+    MAX_PACKETS, NOT_ISOCHRONOUS, OP_COMMON_SIZE, OP_REQ_IMPORT_SIZE, USBIP_DIR_IN, USBIP_DIR_OUT,
 };
 
+mod completion;
 #[cfg(test)]
 mod tests;
+
+pub use completion::Returned;
 
 pub const MAX_TRANSFER_BUFFER_LENGTH: u32 = 16_384;
 pub const MAX_EP: u32 = 15;
 pub const MAX_PENDING: usize = 32;
-pub const LEAST_WORK: usize = MAX_TRANSFER_BUFFER_LENGTH as usize;
+const MAX_DESCRIPTORS_SIZE: usize = MAX_PACKETS as usize * DESCRIPTOR_SIZE;
+pub const LEAST_WORK: usize = MAX_TRANSFER_BUFFER_LENGTH as usize + MAX_DESCRIPTORS_SIZE;
 pub const LEAST_REPLY: usize = 8_192;
+/// For a completion of either kind.
+pub const LEAST_HEADER: usize = HEADER_SIZE + MAX_DESCRIPTORS_SIZE;
 /// A time is a number of 32 bits: after this many milliseconds it is 0 again.
 const CLOCK_ROUND: u64 = 1 << 32;
 
@@ -33,6 +40,14 @@ pub struct Urb {
     pub setup: [u8; 8],
     /// The time given with the feed that took the submit's last byte.
     pub arrival: u32,
+    /// As many as number_of_packets says if the transfer is isochronous, else none.
+    pub packets: Vec<Packet>,
+}
+
+impl Urb {
+    pub fn is_isochronous(&self) -> bool {
+        !self.packets.is_empty()
+    }
 }
 
 #[derive(Clone, Debug, PartialEq, Eq)]
@@ -70,15 +85,6 @@ pub struct Fed {
     pub event: Event,
 }
 
-/// What an accepted completion answers.
-#[derive(Clone, Copy, Debug, PartialEq, Eq)]
-pub struct Returned {
-    /// Bytes on the wire.
-    pub length: usize,
-    /// The status that the client is sent.
-    pub status: i32,
-}
-
 /// Accepted submits, and how many of them have each fate.
 #[derive(Clone, Copy, Debug, Default, PartialEq, Eq)]
 pub struct Numbers {
@@ -100,10 +106,12 @@ enum State {
 pub struct Session {
     state: State,
     table: Vec<Device>,
-    /// The message in progress, without its OUT data.
+    /// The message in progress, without its body.
     head: Vec<u8>,
-    /// How much of its OUT data is in.
+    /// How much of its body is in: OUT data and packet descriptors.
     received: usize,
+    /// The descriptors as they came. The work buffer has them too, but the caller may change it.
+    descriptors: Vec<u8>,
     /// In ticket order.
     pending: Vec<Urb>,
     accepted: u64,
@@ -134,6 +142,7 @@ impl Session {
             table,
             head: Vec::new(),
             received: 0,
+            descriptors: Vec::new(),
             pending: Vec::new(),
             accepted: 0,
             returned: 0,
@@ -187,48 +196,6 @@ impl Session {
             length: answer.len(),
             event,
         }
-    }
-
-    /// Writes the 48 bytes of the return and answers its length on the wire and its status.
-    pub fn complete(
-        &mut self,
-        ticket: u64,
-        status: i32,
-        actual_length: u32,
-        data: &[u8],
-        header: &mut [u8],
-    ) -> Result<Returned, Refusal> {
-        if self.is_closed() {
-            return Err(Refusal::Closed);
-        }
-        let Some(header) = header.get_mut(..HEADER_SIZE) else {
-            return Err(Refusal::SmallBuffer);
-        };
-        let mut urbs = self.pending.iter();
-        let Some(index) = urbs.position(|urb| urb.ticket == ticket) else {
-            return Err(Refusal::NotPending);
-        };
-        let urb = &self.pending[index];
-        check_completion(urb, status, actual_length, data)?;
-        let status = status_sent(urb, status, actual_length);
-        let ret = RetSubmit {
-            seqnum: urb.seqnum,
-            status,
-            actual_length,
-            start_frame: urb.start_frame,
-            number_of_packets: urb.number_of_packets,
-        };
-        header.copy_from_slice(&ret.header());
-        let data_length = match urb.direction {
-            USBIP_DIR_IN => actual_length as usize,
-            _ => 0,
-        };
-        self.pending.remove(index);
-        self.returned += 1;
-        Ok(Returned {
-            length: HEADER_SIZE + data_length,
-            status,
-        })
     }
 
     /// Ends the session and answers the tickets of the URBs it drops.
@@ -320,7 +287,7 @@ impl Session {
                 return self.break_at(offset, reason);
             }
         }
-        if !self.fill_work(submit.data_size(), rest, work) {
+        if !self.fill_body(&submit, rest, work) {
             return HUNGRY;
         }
         self.judge(&submit, devid, time)
@@ -342,7 +309,7 @@ impl Session {
             Err((0x0c, Break::Direction))
         } else if submit.transfer_buffer_length > MAX_TRANSFER_BUFFER_LENGTH {
             Err((0x18, Break::TransferBufferLength))
-        } else if ![0, NOT_ISOCHRONOUS].contains(&submit.number_of_packets) {
+        } else if !matches!(submit.number_of_packets, 0..=MAX_PACKETS | NOT_ISOCHRONOUS) {
             Err((0x20, Break::NumberOfPackets))
         } else if self.find_seqnum(submit.seqnum).is_some() {
             Err((0x04, Break::Seqnum))
@@ -353,22 +320,17 @@ impl Session {
 
     /// Accepts or answers a submit whose last byte is in.
     fn judge(&mut self, submit: &CmdSubmit, devid: u32, time: u32) -> Answer {
-        let Some(status) = refuses_submit(submit, devid, self.pending.len(), self.accepted) else {
-            return self.accept(submit, time);
+        let packets = packets::read(&self.descriptors);
+        let (pending, accepted) = (self.pending.len(), self.accepted);
+        let Some(status) = refuses_submit(submit, &packets, devid, pending, accepted) else {
+            return self.accept(submit, packets, time);
         };
         let seqnum = submit.seqnum;
-        let ret = RetSubmit {
-            seqnum,
-            status,
-            actual_length: 0,
-            start_frame: submit.start_frame,
-            number_of_packets: submit.number_of_packets,
-        };
         let event = Event::RefusedSubmit { seqnum, status };
-        (event, ret.header().to_vec())
+        (event, refusing_reply(submit, &packets, status))
     }
 
-    fn accept(&mut self, submit: &CmdSubmit, time: u32) -> Answer {
+    fn accept(&mut self, submit: &CmdSubmit, packets: Vec<Packet>, time: u32) -> Answer {
         self.accepted += 1;
         let urb = Urb {
             ticket: self.accepted,
@@ -382,6 +344,7 @@ impl Session {
             interval: submit.interval,
             setup: submit.setup,
             arrival: time,
+            packets,
         };
         self.pending.push(urb.clone());
         (Event::Accepted(urb), Vec::new())
@@ -429,6 +392,7 @@ impl Session {
     fn forget_message(&mut self) {
         self.head.clear();
         self.received = 0;
+        self.descriptors.clear();
     }
 
     /// Moves bytes from the piece until the head has `size` of them; tells whether it has.
@@ -438,63 +402,63 @@ impl Session {
         self.head.len() >= size
     }
 
-    /// Moves OUT data from the piece to its own place in the work buffer; tells whether all is in.
-    fn fill_work(&mut self, size: usize, rest: &mut &[u8], work: &mut [u8]) -> bool {
-        let data = take(rest, size - self.received);
-        let end = self.received + data.len();
-        work[self.received..end].copy_from_slice(data);
+    /// Moves the body from the piece to its own place in the work buffer, and the descriptors to
+    /// the session as well; tells whether all is in.
+    fn fill_body(&mut self, submit: &CmdSubmit, rest: &mut &[u8], work: &mut [u8]) -> bool {
+        let bytes = take(rest, submit.body_size() - self.received);
+        let end = self.received + bytes.len();
+        work[self.received..end].copy_from_slice(bytes);
+        let data_left = submit.data_size().saturating_sub(self.received);
+        self.descriptors.extend(bytes.iter().skip(data_left));
         self.received = end;
-        self.received == size
+        self.received == submit.body_size()
     }
 }
 
-/// The status of a submit that isn't accepted: by the devid that is attached, and how many URBs are
-/// pending and were ever accepted.
+/// The status of a submit that isn't accepted: by its packets, if it is isochronous, by the devid
+/// that is attached, and by how many URBs are pending and were ever accepted.
 pub fn refuses_submit(
     submit: &CmdSubmit,
+    packets: &[Packet],
     devid: u32,
     pending: usize,
     accepted: u64,
 ) -> Option<i32> {
+    let (direction, length) = (submit.direction, submit.transfer_buffer_length);
     if submit.devid != devid {
-        Some(-ENODEV)
-    } else if submit.ep > MAX_EP {
-        Some(-EINVAL)
-    } else if pending == MAX_PENDING || accepted == u64::MAX {
-        Some(-ENOMEM)
-    } else {
-        None
+        return Some(-ENODEV);
     }
+    if submit.ep > MAX_EP {
+        return Some(-EINVAL);
+    }
+    if !packets.is_empty() && !packets::fit_transfer(packets, direction, length) {
+        return Some(-EINVAL);
+    }
+    if pending == MAX_PENDING || accepted == u64::MAX {
+        return Some(-ENOMEM);
+    }
+    None
 }
 
-fn check_completion(
-    urb: &Urb,
-    status: i32,
-    actual_length: u32,
-    data: &[u8],
-) -> Result<(), Refusal> {
-    if status > 0 {
-        Err(Refusal::PositiveStatus)
-    } else if actual_length > urb.transfer_buffer_length {
-        Err(Refusal::ActualLength)
-    } else if urb.direction == USBIP_DIR_IN && data.len() < actual_length as usize {
-        Err(Refusal::ShortData)
-    } else {
-        Ok(())
-    }
-}
-
-/// A short read that the device gives as good isn't, if the client said so.
-fn status_sent(urb: &Urb, status: i32, actual_length: u32) -> i32 {
-    let is_isochronous = ![0, NOT_ISOCHRONOUS].contains(&urb.number_of_packets);
-    let may_be_short = urb.transfer_flags & URB_SHORT_NOT_OK == 0;
-    if urb.direction != USBIP_DIR_IN || is_isochronous || may_be_short {
-        status
-    } else if status == 0 && actual_length < urb.transfer_buffer_length {
-        -EREMOTEIO
-    } else {
-        status
-    }
+/// No packet was started, so each has the status of the whole, and none counts as an error.
+fn refusing_reply(submit: &CmdSubmit, packets: &[Packet], status: i32) -> Vec<u8> {
+    let ret = RetSubmit {
+        seqnum: submit.seqnum,
+        status,
+        actual_length: 0,
+        start_frame: submit.start_frame,
+        number_of_packets: submit.number_of_packets,
+        error_count: 0,
+    };
+    let result = PacketResult {
+        actual_length: 0,
+        status,
+    };
+    let list: Vec<_> = packets
+        .iter()
+        .map(|packet| packet.descriptor(result))
+        .collect();
+    [&ret.header()[..], &wire::descriptors(&list)].concat()
 }
 
 /// How long ago a URB arrived, if less than a round of the clock ago.

@@ -18,6 +18,8 @@ pub const USBIP_DIR_IN: u32 = 1;
 
 /// number_of_packets of a transfer that isn't isochronous; 0 is taken as well.
 pub const NOT_ISOCHRONOUS: u32 = 0xffff_ffff;
+/// The most packets of an isochronous transfer.
+pub const MAX_PACKETS: u32 = 32;
 
 /// The transfer_flags bit of a client that doesn't take a short read as good.
 pub const URB_SHORT_NOT_OK: u32 = 0x0000_0001;
@@ -28,6 +30,8 @@ pub const OP_REQ_IMPORT_SIZE: usize = OP_COMMON_SIZE + BUSID_SIZE;
 pub const DEVICE_SIZE: usize = 312;
 /// What every message has first once a device is attached.
 pub const HEADER_SIZE: usize = 48;
+/// An iso_packet_descriptor.
+pub const DESCRIPTOR_SIZE: usize = 16;
 
 pub const IMPORT_OK: u32 = 0;
 pub const IMPORT_ERROR: u32 = 1;
@@ -127,6 +131,53 @@ impl CmdSubmit {
             _ => 0,
         }
     }
+
+    /// How many packet descriptors follow the data.
+    pub fn packet_count(&self) -> usize {
+        match self.number_of_packets {
+            1..=MAX_PACKETS => self.number_of_packets as usize,
+            _ => 0,
+        }
+    }
+
+    /// All that follows the header.
+    pub fn body_size(&self) -> usize {
+        self.data_size() + self.packet_count() * DESCRIPTOR_SIZE
+    }
+}
+
+/// Says of one packet where it is in the transfer buffer and, in a reply, what became of it.
+#[derive(Clone, Copy, Debug, Default, PartialEq, Eq)]
+pub struct IsoPacketDescriptor {
+    pub offset: u32,
+    pub length: u32,
+    pub actual_length: u32,
+    pub status: i32,
+}
+
+impl IsoPacketDescriptor {
+    /// Of 16 bytes.
+    pub fn read(bytes: &[u8]) -> IsoPacketDescriptor {
+        IsoPacketDescriptor {
+            offset: be32(bytes, 0),
+            length: be32(bytes, 4),
+            actual_length: be32(bytes, 8),
+            status: be32(bytes, 12) as i32,
+        }
+    }
+
+    pub fn bytes(&self) -> [u8; DESCRIPTOR_SIZE] {
+        let status = self.status as u32;
+        let words = [self.offset, self.length, self.actual_length, status];
+        let mut bytes = [0; DESCRIPTOR_SIZE];
+        write_words(&mut bytes, &words);
+        bytes
+    }
+}
+
+/// The descriptors one after another, as a request or a reply has them.
+pub fn descriptors(list: &[IsoPacketDescriptor]) -> Vec<u8> {
+    list.iter().flat_map(IsoPacketDescriptor::bytes).collect()
 }
 
 impl CmdUnlink {
@@ -168,6 +219,7 @@ pub struct RetSubmit {
     pub actual_length: u32,
     pub start_frame: u32,
     pub number_of_packets: u32,
+    pub error_count: u32,
 }
 
 impl RetSubmit {
@@ -182,6 +234,7 @@ impl RetSubmit {
             self.actual_length,
             self.start_frame,
             self.number_of_packets,
+            self.error_count,
         ];
         header(padded_words(&words))
     }
@@ -277,10 +330,14 @@ fn padded_words(words: &[u32]) -> [u32; HEADER_WORDS] {
 
 fn header(words: [u32; HEADER_WORDS]) -> [u8; HEADER_SIZE] {
     let mut header = [0; HEADER_SIZE];
-    for (field, word) in header.chunks_exact_mut(4).zip(words) {
+    write_words(&mut header, &words);
+    header
+}
+
+fn write_words(bytes: &mut [u8], words: &[u32]) {
+    for (field, word) in bytes.chunks_exact_mut(4).zip(words) {
         field.copy_from_slice(&word.to_be_bytes());
     }
-    header
 }
 
 #[cfg(test)]
@@ -391,10 +448,63 @@ mod tests {
             actual_length: 64,
             start_frame: 0xffff_ffff,
             number_of_packets: 0,
+            error_count: 0,
         };
         assert_eq!(ret.header().to_vec(), bytes(RET_INTR_OUT));
         ret.seqnum = 0xd05;
         assert_eq!(ret.header().to_vec(), bytes(RET_INTR_IN));
+    }
+
+    #[test]
+    fn a_return_has_its_error_count_at_36() {
+        let ret = RetSubmit {
+            seqnum: 1,
+            status: -2,
+            actual_length: 3,
+            start_frame: 4,
+            number_of_packets: 5,
+            error_count: 6,
+        };
+        let words = "00000003 00000001 00000000 00000000 00000000 fffffffe 00000003 00000004 00000005 00000006 00000000 00000000";
+        assert_eq!(ret.header().to_vec(), bytes(words));
+    }
+
+    #[test]
+    fn a_descriptor_has_four_words() {
+        let words = bytes("01020304 05060708 090a0b0c fffffffe");
+        let descriptor = IsoPacketDescriptor {
+            offset: 0x0102_0304,
+            length: 0x0506_0708,
+            actual_length: 0x090a_0b0c,
+            status: -2,
+        };
+        assert_eq!(IsoPacketDescriptor::read(&words), descriptor);
+        assert_eq!(descriptor.bytes().to_vec(), words);
+        let two = [IsoPacketDescriptor::default(), descriptor];
+        assert_eq!(descriptors(&two), [vec![0; 16], words].concat());
+    }
+
+    #[test]
+    fn what_follows_a_header_is_data_and_a_descriptor_a_packet() {
+        for (direction, number_of_packets, data, packets) in [
+            (USBIP_DIR_IN, 0, 0, 0),
+            (USBIP_DIR_IN, 1, 0, 1),
+            (USBIP_DIR_IN, 32, 0, 32),
+            (USBIP_DIR_IN, 33, 0, 0),
+            (USBIP_DIR_IN, NOT_ISOCHRONOUS, 0, 0),
+            (USBIP_DIR_OUT, 0, 64, 0),
+            (USBIP_DIR_OUT, 32, 64, 32),
+            (USBIP_DIR_OUT, NOT_ISOCHRONOUS, 64, 0),
+        ] {
+            let submit = CmdSubmit {
+                direction,
+                number_of_packets,
+                ..intr_in()
+            };
+            assert_eq!(submit.data_size(), data);
+            assert_eq!(submit.packet_count(), packets);
+            assert_eq!(submit.body_size(), data + 16 * packets);
+        }
     }
 
     #[test]

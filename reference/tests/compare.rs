@@ -224,6 +224,100 @@ mod known_exchanges {
     }
 }
 
+mod isochronous {
+    use super::*;
+
+    /// The reply to a submit of two packets that is refused with a status.
+    fn refused(seqnum: u32, status: i32, places: [u32; 4]) -> String {
+        let [offset, length, next_offset, next_length] = places;
+        let head = format!("00000003{seqnum:08x}{}{status:08x}", "00000000".repeat(3));
+        let rest = format!("{}00000002{}", "00000000".repeat(2), "00000000".repeat(3));
+        let first = format!("{offset:08x}{length:08x}00000000{status:08x}");
+        let second = format!("{next_offset:08x}{next_length:08x}00000000{status:08x}");
+        format!("{head}{rest}{first}{second}")
+    }
+
+    #[test]
+    fn reading_packets() {
+        let text = "import 1-1\n\
+             submit seq=7 dir=in ep=1 length=100 flags=2 start=5 packets=3 interval=1\n\
+             + packets 10+20/1/-1 30+0 30+70\n\
+             complete ticket=1 status=0 actual=81\n\
+             complete-iso ticket=1 status=-63 20/1 0 61/-71\n";
+        let header = "00000003 00000007 00000000 00000000 00000000 ffffffc1 00000051 00000005 00000003 00000002 00000000 00000000 \
+             0000000a 00000014 00000014 00000001 \
+             0000001e 00000000 00000000 00000000 \
+             0000001e 00000046 0000003d ffffffb9";
+        let expected = format!(
+            "{}\
+             submit 1 7\n\
+             feed 96 0 -\n\
+             record 1 7 1 1 2 100 5 3 1 0000000000000000\n\
+             data -\n\
+             packets 10 20 30 0 30 70\n\
+             refused 6\n\
+             header 0 -\n\
+             return 1 -63 81\n\
+             header 177 {}\n\
+             end 1 0 1 0 0\n",
+            imported(),
+            digits(header)
+        );
+        check("reading packets", text, &expected);
+    }
+
+    #[test]
+    fn writing_packets() {
+        let text = "import 1-1\n\
+             submit seq=8 dir=out ep=2 length=3 packets=2\n\
+             + data 0a0b0c\n\
+             + packets 0+1 1+2 part=0..31\n\
+             bytes 00\n\
+             complete-iso ticket=1 status=0 1 1\n";
+        let header = "00000003 00000008 00000000 00000000 00000000 00000000 00000002 00000000 00000002 00000000 00000000 00000000 \
+             00000000 00000001 00000001 00000000 \
+             00000001 00000002 00000001 00000000";
+        let expected = format!(
+            "{}\
+             feed 82 0 -\n\
+             submit 1 8\n\
+             feed 1 0 -\n\
+             record 1 8 0 2 0 3 0 2 0 0000000000000000\n\
+             data 0a0b0c\n\
+             packets 0 1 1 2\n\
+             return 1 0 2\n\
+             header 80 {}\n\
+             end 1 0 1 0 0\n",
+            imported(),
+            digits(header)
+        );
+        check("writing packets", text, &expected);
+    }
+
+    #[test]
+    fn refused_packets() {
+        let text = "import 1-1\n\
+             submit seq=1 dir=in ep=1 length=100 packets=2 devid=0\n\
+             + packets 0+50/1/2 50+50/3/4\n\
+             submit seq=2 dir=in ep=16 length=100 packets=2\n\
+             + packets 0+50 50+50\n\
+             submit seq=3 dir=in ep=1 length=100 packets=2\n\
+             + packets 0+50 0xffffffff+1\n";
+        let expected = format!(
+            "{}\
+             answer 1 -19\nfeed 80 80 {}\n\
+             answer 2 -22\nfeed 80 80 {}\n\
+             answer 3 -22\nfeed 80 80 {}\n\
+             end 0 0 0 0 0\n",
+            imported(),
+            refused(1, -19, [0, 50, 50, 50]),
+            refused(2, -22, [0, 50, 50, 50]),
+            refused(3, -22, [0, 50, u32::MAX, 1])
+        );
+        check("refused packets", text, &expected);
+    }
+}
+
 #[test]
 fn named_tapes() {
     let programs = Programs::from_environment();

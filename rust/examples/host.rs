@@ -5,9 +5,8 @@
 //! Its device is a camera that numbers its pictures and can't stop an exposure: a ticket that was cancelled meanwhile is completed
 //! like any other, and refused.
 
-use rimemaple::{
-    part, Device, Event, Session, Table, HEADER_LEN, MAX_PENDING, REPLY_LEN, WORK_LEN,
-};
+use rimemaple::{part, Device, Event, PacketResult, Packets, Refusal, Returned, Session, Table};
+use rimemaple::{DESCRIPTOR_LEN, HEADER_LEN, HEADER_ROOM, MAX_PENDING, REPLY_LEN, WORK_LEN};
 use std::collections::VecDeque;
 use std::error::Error;
 use std::io::{self, Read, Write};
@@ -17,6 +16,8 @@ struct Exposure {
     ticket: u64,
     is_in: bool,
     length: u32,
+    /// Of an isochronous URB, else none.
+    iso: Packets,
 }
 
 struct Host {
@@ -42,11 +43,18 @@ impl Host {
         })
     }
 
-    /// A reply goes out whole before the next one starts.
-    fn send_reply(&mut self, header: &[u8], payload: &[u8]) -> io::Result<()> {
+    /// A reply goes out whole before the next one starts: the header, `n` bytes of the payload, and the descriptors of
+    /// the packets, which stand behind the header.
+    fn send_reply(
+        &mut self,
+        header: &[u8],
+        payload: &[u8],
+        n: usize,
+        packets: usize,
+    ) -> io::Result<()> {
         let mut sent = 0;
         loop {
-            let part = part(header, payload, payload.len(), sent, 1460);
+            let part = part(header, payload, n, packets, sent, 1460);
             if part.is_empty() {
                 return self.client.flush();
             }
@@ -65,6 +73,29 @@ impl Host {
         picture
     }
 
+    /// Each packet of an isochronous URB is transferred whole. Of an IN the picture has their bytes without gaps.
+    fn complete(
+        &mut self,
+        e: &Exposure,
+        picture: &[u8],
+        header: &mut [u8],
+    ) -> Result<Returned, Refusal> {
+        let whole = |length| PacketResult {
+            actual: length,
+            status: 0,
+        };
+        let results: Vec<PacketResult> = e.iso.iter().map(|packet| whole(packet.length)).collect();
+        let total = results.iter().map(|result| result.actual).sum();
+        match results.len() {
+            0 => self
+                .session
+                .complete(e.ticket, 0, e.length, picture, header),
+            _ => self
+                .session
+                .complete_iso(e.ticket, 0, total, &results, picture, header),
+        }
+    }
+
     /// The device is done with the first URB that it started: a picture for IN.
     fn finish(&mut self, e: Exposure) -> io::Result<()> {
         let picture = if e.is_in {
@@ -72,12 +103,12 @@ impl Host {
         } else {
             Vec::new()
         };
-        let mut header = [0; HEADER_LEN];
-        match self
-            .session
-            .complete(e.ticket, 0, e.length, &picture, &mut header)
-        {
-            Ok(_) => self.send_reply(&header, &picture),
+        let (mut header, packets) = ([0; HEADER_ROOM], e.iso.len());
+        match self.complete(&e, &picture, &mut header) {
+            Ok(returned) => {
+                let n = returned.length as usize - HEADER_LEN - packets * DESCRIPTOR_LEN;
+                self.send_reply(&header, &picture, n, packets)
+            }
             Err(refusal) => {
                 eprintln!("ticket {}: {refusal}: its picture is dropped", e.ticket);
                 Ok(())
@@ -104,11 +135,15 @@ impl Host {
             piece = &piece[fed.consumed..];
             match fed.event {
                 Event::Submit {
-                    ticket, transfer, ..
+                    ticket,
+                    transfer,
+                    iso,
+                    ..
                 } => self.started.push_back(Exposure {
                     ticket,
                     is_in: transfer.is_in(),
                     length: transfer.length,
+                    iso,
                 }),
                 Event::Break { fault, .. } => return Err(Box::new(fault)),
                 _ => {

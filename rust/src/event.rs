@@ -1,13 +1,13 @@
 //! What a feed tells.
 
 use crate::refusal::{Fault, Refusal};
-use crate::sys::{self, Transfer, DIR_IN, MAX_PENDING, SETUP_LEN};
+use crate::sys::{self, Packet, Transfer, DIR_IN, MAX_PACKETS, MAX_PENDING, SETUP_LEN};
 use std::fmt;
 use std::ops::Deref;
 
 /// What the bytes of a feed came to. A reply, where there is one, is at the front of the reply buffer.
 #[derive(Clone, Copy, Debug, PartialEq, Eq)]
-// The tickets of a break stand in the event, so that none needs the heap.
+// The packets of a submit and the tickets of a break stand in the event, so that none needs the heap.
 #[allow(clippy::large_enum_variant)]
 pub enum Event {
     /// The piece is used up within a message: feed the next one.
@@ -29,8 +29,10 @@ pub enum Event {
         setup: [u8; SETUP_LEN],
         /// The time that was given with this feed.
         arrival: u32,
+        /// The packets of an isochronous submit; none of any other.
+        iso: Packets,
     },
-    /// A refused submit: its RET_SUBMIT is the reply.
+    /// A refused submit: its RET_SUBMIT is the reply, an isochronous one's with its descriptors.
     Answer {
         /// The submit's own.
         seqnum: u32,
@@ -69,6 +71,7 @@ impl Event {
                 transfer: event.transfer,
                 setup: event.setup,
                 arrival: event.arrival,
+                iso: Packets::from(&event.iso[..event.transfer.packet_count()]),
             },
             sys::ANSWER => Event::Answer { seqnum, status },
             sys::UNLINK => Event::Unlink {
@@ -126,6 +129,14 @@ impl Transfer {
     pub fn is_in(&self) -> bool {
         self.direction == DIR_IN
     }
+
+    /// How many packets it has: 1 to 32 if it is isochronous, else 0.
+    pub fn packet_count(&self) -> usize {
+        match self.packets as usize {
+            count @ 1..=MAX_PACKETS => count,
+            _ => 0,
+        }
+    }
 }
 
 impl fmt::Display for Transfer {
@@ -134,7 +145,42 @@ impl fmt::Display for Transfer {
         let Transfer {
             seqnum, ep, length, ..
         } = self;
-        write!(f, "seqnum {seqnum}, {direction}, ep {ep}, length {length}")
+        write!(f, "seqnum {seqnum}, {direction}, ep {ep}, length {length}")?;
+        match self.packet_count() {
+            0 => Ok(()),
+            count => write!(f, ", packets {count}"),
+        }
+    }
+}
+
+/// The packets of an isochronous submit, in their order: offset and length of each, as they came.
+#[derive(Clone, Copy, PartialEq, Eq)]
+pub struct Packets {
+    places: [Packet; MAX_PACKETS],
+    count: usize,
+}
+
+impl Deref for Packets {
+    type Target = [Packet];
+
+    fn deref(&self) -> &[Packet] {
+        &self.places[..self.count]
+    }
+}
+
+/// These packets, as far as there are places.
+impl From<&[Packet]> for Packets {
+    fn from(packets: &[Packet]) -> Packets {
+        let count = packets.len().min(MAX_PACKETS);
+        let mut places = [Packet::default(); MAX_PACKETS];
+        places[..count].copy_from_slice(&packets[..count]);
+        Packets { places, count }
+    }
+}
+
+impl fmt::Debug for Packets {
+    fn fmt(&self, f: &mut fmt::Formatter) -> fmt::Result {
+        f.debug_list().entries(self.iter()).finish()
     }
 }
 

@@ -8,7 +8,8 @@
 //! A client imports a device, asks for four bytes, and gets them:
 //!
 //! ```
-//! use rimemaple::{part, Device, Event, Session, Table, HEADER_LEN, REPLY_LEN, WORK_LEN};
+//! use rimemaple::{part, Device, Event, Packet, PacketResult, Session, Table};
+//! use rimemaple::{HEADER_LEN, HEADER_ROOM, REPLY_LEN, WORK_LEN};
 //!
 //! # fn main() -> Result<(), Box<dyn std::error::Error>> {
 //! let camera = Device::new("/deck/1-1", "1-1", 1, 15)?;
@@ -32,17 +33,30 @@
 //! assert_eq!(session.stale(6_000, 5_000)?[..], [1]);
 //!
 //! // The device is done with ticket 1. The socket takes ten bytes at a time, lent from the header and the data.
-//! let (data, mut header) = (*b"tuna", [0; HEADER_LEN]);
+//! let (data, mut header) = (*b"tuna", [0; HEADER_ROOM]);
 //! let length = session.complete(1, 0, 4, &data, &mut header)?.length as usize;
 //! let mut wire: Vec<u8> = Vec::new();
 //! while wire.len() < length {
-//!     wire.extend(part(&header, &data, length - HEADER_LEN, wire.len(), 10));
+//!     wire.extend(part(&header, &data, data.len(), 0, wire.len(), 10));
 //! }
 //! assert_eq!(wire[HEADER_LEN..], data);
 //!
 //! // It says so twice, which changes nothing.
 //! let again = session.complete(1, 0, 4, &data, &mut header);
 //! assert_eq!(again.unwrap_err().to_string(), "refused 4: ticket not pending");
+//!
+//! // An isochronous submit: seqnum 8, eight bytes in two packets, offset and length of each in a descriptor behind the header.
+//! let words: [u32; 20] = [1, 8, 0x0001_000f, 1, 1, 0, 8, 0, 2, 1, 0, 0, 0, 4, 0, 0, 4, 4, 0, 0];
+//! let submit = words.map(u32::to_be_bytes).concat();
+//! let fed = session.feed(&submit, &mut work, &mut reply, 7_000)?;
+//! let Event::Submit { ticket, iso, .. } = fed.event else { panic!("accepted") };
+//! assert_eq!(iso[1], Packet { offset: 4, length: 4 });
+//!
+//! // The first packet came short, the second one whole. The data is lent without gaps, and descriptors end the reply.
+//! let results = [PacketResult { actual: 2, status: 0 }, PacketResult { actual: 4, status: 0 }];
+//! let returned = session.complete_iso(ticket, 0, 6, &results, b"codeel", &mut header)?;
+//! assert_eq!(returned.length, 48 + 6 + 2 * 16);
+//! assert_eq!(part(&header, b"codeel", 6, iso.len(), 48 + 6, 16), &header[48..64]);
 //! # Ok(())
 //! # }
 //! ```
@@ -58,13 +72,14 @@ pub mod sys;
 mod table;
 
 pub use about::{check, limits, version, Mismatch};
-pub use event::{Event, Tickets};
+pub use event::{Event, Packets, Tickets};
 pub use refusal::{Fault, Refusal};
 pub use sending::part;
 pub use session::{Fed, Returned, Session};
 pub use sys::{
-    Limits, Numbers, Transfer, DIR_IN, DIR_OUT, HEADER_LEN, MAX_DEVICES, MAX_INTERFACES,
-    MAX_PENDING, MAX_TRANSFER, REPLY_LEN, SETUP_LEN, WORK_LEN,
+    Limits, Numbers, Packet, Result as PacketResult, Transfer, DESCRIPTOR_LEN, DIR_IN, DIR_OUT,
+    HEADER_LEN, HEADER_ROOM, MAX_DEVICES, MAX_INTERFACES, MAX_PACKETS, MAX_PENDING, MAX_TRANSFER,
+    REPLY_LEN, SETUP_LEN, WORK_LEN,
 };
 pub use table::{Device, Interface, Table, Unfit};
 

@@ -14,7 +14,7 @@ pub struct Fault(u32);
 const REFUSALS: [(u32, &str); 7] = [
     (
         sys::SHORT_BUFFER,
-        "work under 16384, reply under 8192 or header under 48 bytes",
+        "work under 16896, reply under 8192 or header under 560 bytes",
     ),
     (sys::BAD_TABLE, "a table rule is broken"),
     (
@@ -23,10 +23,7 @@ const REFUSALS: [(u32, &str); 7] = [
     ),
     (sys::NOT_PENDING, "ticket not pending"),
     (sys::STATUS_ABOVE_0, "status above 0"),
-    (
-        sys::ACTUAL_TOO_LONG,
-        "actual length above transfer_buffer_length",
-    ),
+    (sys::MISFIT, "the completion doesn't fit its URB"),
     (sys::SHORT_DATA, "IN, data shorter than actual length"),
 ];
 
@@ -36,7 +33,10 @@ const FAULTS: [(u32, &str); 9] = [
     (sys::BAD_COMMAND, "command not 1 or 2"),
     (sys::BAD_DIRECTION, "direction not 0 or 1"),
     (sys::BAD_LENGTH, "transfer_buffer_length above 16384"),
-    (sys::BAD_PACKETS, "number_of_packets not 0 or 0xffffffff"),
+    (
+        sys::BAD_PACKETS,
+        "number_of_packets not 0 to 32 nor 0xffffffff",
+    ),
     (sys::SEQNUM_PENDING, "submit's seqnum is pending"),
     (
         sys::DIRTY_PADDING,
@@ -56,8 +56,9 @@ impl Refusal {
     pub const NOT_PENDING: Refusal = Refusal(sys::NOT_PENDING);
     /// A completion's status is neither 0 nor a negative errno.
     pub const STATUS_ABOVE_0: Refusal = Refusal(sys::STATUS_ABOVE_0);
-    /// The actual length is longer than the transfer.
-    pub const ACTUAL_TOO_LONG: Refusal = Refusal(sys::ACTUAL_TOO_LONG);
+    /// The completion doesn't fit its URB: longer than the transfer, of the wrong kind, of another packet count, an
+    /// actual length above its packet's, or a total that isn't their sum.
+    pub const MISFIT: Refusal = Refusal(sys::MISFIT);
     /// An IN's payload is shorter than the actual length.
     pub const SHORT_DATA: Refusal = Refusal(sys::SHORT_DATA);
 
@@ -78,7 +79,7 @@ impl Fault {
     pub const BAD_DIRECTION: Fault = Fault(sys::BAD_DIRECTION);
     /// A submit is for a longer transfer than the box serves.
     pub const BAD_LENGTH: Fault = Fault(sys::BAD_LENGTH);
-    /// A submit is isochronous.
+    /// A submit has more packets than the box serves.
     pub const BAD_PACKETS: Fault = Fault(sys::BAD_PACKETS);
     /// A submit has the seqnum of one that is pending.
     pub const SEQNUM_PENDING: Fault = Fault(sys::SEQNUM_PENDING);

@@ -5,12 +5,15 @@ use crate::sys;
 /// The part of a reply that goes out next, lent and never copied, when `sent` bytes are out and the socket takes
 /// `most`.
 ///
-/// The header's 48 bytes go first, then the first `n` of the payload; `n` is what the completion answered, less 48.
-/// The part is empty when all is out, with a `most` of 0, and where the header or the payload is too short.
+/// The header's 48 bytes go first, then the first `n` of the payload, then the 16 for each packet that stand behind the
+/// 48 in the header. `n` is an IN's actual length or total, and 0 for an OUT; `packets` is 0 for a URB that isn't
+/// isochronous. A part is of one of the three. It is empty when all is out, with a `most` of 0, and where the header is
+/// under 48 + 16 * `packets` bytes or the payload under `n`.
 pub fn part<'a>(
     header: &'a [u8],
     payload: &'a [u8],
     n: usize,
+    packets: usize,
     sent: usize,
     most: usize,
 ) -> &'a [u8] {
@@ -22,6 +25,7 @@ pub fn part<'a>(
             payload.as_ptr(),
             payload.len(),
             n,
+            packets,
             sent,
             most,
         )

@@ -2,7 +2,7 @@
 
 use crate::event::{Event, Tickets};
 use crate::refusal::Refusal;
-use crate::sys::{self, Numbers};
+use crate::sys::{self, Numbers, MAX_PACKETS};
 use crate::table::Table;
 use std::fmt;
 
@@ -24,7 +24,7 @@ pub struct Fed {
 /// What an accepted completion answers.
 #[derive(Clone, Copy, Debug, PartialEq, Eq)]
 pub struct Returned {
-    /// Bytes of the reply on the wire: the header, and for IN the payload's first `actual`.
+    /// Bytes of the reply on the wire: the header, for IN the payload's first `actual`, and 16 for each packet.
     pub length: u64,
     /// The status that the client is sent.
     pub status: i32,
@@ -46,7 +46,8 @@ impl Session {
     /// Takes a piece of the client's stream, cut anywhere: up to the end of the first whole message, or all of it.
     ///
     /// OUT data goes to the work buffer as it comes, from 0 on: lend the same one until its message ends, and copy
-    /// the data before the next feed. `work` has at least [`WORK_LEN`](crate::WORK_LEN) bytes, `reply` at least
+    /// the data before the next feed. An isochronous submit's descriptors go there, too, behind the data, but are never
+    /// read back: the event has the packets. `work` has at least [`WORK_LEN`](crate::WORK_LEN) bytes, `reply` at least
     /// [`REPLY_LEN`](crate::REPLY_LEN).
     ///
     /// The time is in milliseconds, from any start, and wraps. An accepted submit keeps the time of the feed that takes
@@ -82,9 +83,10 @@ impl Session {
     /// Takes the device's word that a ticket is done, and tells the reply's length on the wire and the status sent.
     ///
     /// `status` is 0 or a negative errno, `actual` the bytes that were transferred. The payload is an IN's data; an
-    /// OUT's isn't looked at. The header gets [`HEADER_LEN`](crate::HEADER_LEN) bytes; send them and the payload by
-    /// [`part`](crate::part). The status sent is the one given, except that an IN whose flags have URB_SHORT_NOT_OK
-    /// (bit 0), given with 0 and fewer bytes than its length, is sent with -121 (EREMOTEIO), and its data with it.
+    /// OUT's isn't looked at. The header buffer has at least [`HEADER_ROOM`](crate::HEADER_ROOM) bytes, and the first
+    /// [`HEADER_LEN`](crate::HEADER_LEN) are written; send them and the payload by [`part`](crate::part). The status
+    /// sent is the one given, except that an IN whose flags have URB_SHORT_NOT_OK (bit 0), given with 0 and fewer bytes
+    /// than its length, is sent with -121 (EREMOTEIO), and its data with it.
     pub fn complete(
         &mut self,
         ticket: u64,
@@ -106,6 +108,44 @@ impl Session {
                 header.len(),
             )
         };
+        self.returned(&completed)
+    }
+
+    /// Takes the device's word that an isochronous ticket is done, with a result for each of its packets; `total` is
+    /// the sum of their actual lengths.
+    ///
+    /// The payload is an IN's data, `total` bytes without gaps: each packet's actual bytes stand right behind those of
+    /// the packet before it, wherever its offset is. The header buffer has at least
+    /// [`HEADER_ROOM`](crate::HEADER_ROOM) bytes; the first [`HEADER_LEN`](crate::HEADER_LEN) are written and, behind
+    /// them, [`DESCRIPTOR_LEN`](crate::DESCRIPTOR_LEN) for each packet. `status` is the URB's own, 0 or a negative errno,
+    /// and is sent as it is; a packet's may be any, and is counted as an error if it isn't 0.
+    pub fn complete_iso(
+        &mut self,
+        ticket: u64,
+        status: i32,
+        total: u32,
+        results: &[sys::Result],
+        payload: &[u8],
+        header: &mut [u8],
+    ) -> Result<Returned, Refusal> {
+        // SAFETY: pointers and lengths are those of slices, and the one that is written to doesn't overlap the other.
+        let completed = unsafe {
+            sys::rimemaple_complete_iso(
+                self.0,
+                ticket,
+                status,
+                total,
+                flat(results),
+                payload.as_ptr(),
+                payload.len(),
+                header.as_mut_ptr(),
+                header.len(),
+            )
+        };
+        self.returned(&completed)
+    }
+
+    fn returned(&mut self, completed: &sys::Completed) -> Result<Returned, Refusal> {
         self.0 = completed.session;
         refused(completed.refusal)?;
         Ok(Returned {
@@ -161,6 +201,16 @@ impl fmt::Debug for Session {
             .field("numbers", &self.numbers())
             .finish_non_exhaustive()
     }
+}
+
+/// More results than there are places for are told by their count, which no URB has: so the engine refuses them.
+fn flat(results: &[sys::Result]) -> sys::Results {
+    let mut list = [sys::Result::default(); MAX_PACKETS];
+    for (place, result) in list.iter_mut().zip(results) {
+        *place = *result;
+    }
+    let count = results.len();
+    sys::Results { list, count }
 }
 
 fn refused(number: u32) -> Result<(), Refusal> {

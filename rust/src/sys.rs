@@ -5,7 +5,7 @@
 //! compares every constant and the place and size of every field with the header's.
 
 /// The version of the face that is declared here.
-pub const VERSION: u32 = 5;
+pub const VERSION: u32 = 6;
 
 /// Devices of a table, at most.
 pub const MAX_DEVICES: usize = 16;
@@ -15,18 +15,24 @@ pub const MAX_INTERFACES: usize = 16;
 pub const MAX_PENDING: usize = 32;
 /// Bytes of a transfer, at most.
 pub const MAX_TRANSFER: usize = 16_384;
+/// Packets of an isochronous URB, at most.
+pub const MAX_PACKETS: usize = 32;
 /// Bytes of a path, the zero at its end included.
 pub const PATH_LEN: usize = 256;
 /// Bytes of a busid, the zero at its end included.
 pub const BUSID_LEN: usize = 32;
 /// Bytes of a SETUP packet.
 pub const SETUP_LEN: usize = 8;
-/// The least size of a work buffer.
-pub const WORK_LEN: usize = 16_384;
+/// Bytes of a packet's descriptor, in a request and in a reply.
+pub const DESCRIPTOR_LEN: usize = 16;
+/// Bytes of a message's header.
+pub const HEADER_LEN: usize = 48;
+/// The least size of a work buffer: a transfer and its packets' descriptors.
+pub const WORK_LEN: usize = 16_896;
 /// The least size of a reply buffer.
 pub const REPLY_LEN: usize = 8_192;
-/// The least size of a header buffer, and what a completion writes there.
-pub const HEADER_LEN: usize = 48;
+/// The least size of a header buffer: a header and the descriptors of 32 packets.
+pub const HEADER_ROOM: usize = 560;
 
 /// The direction of an OUT transfer.
 pub const DIR_OUT: u32 = 0;
@@ -60,8 +66,8 @@ pub const SESSION_CLOSED: u32 = 3;
 pub const NOT_PENDING: u32 = 4;
 /// A refusal: the status is above 0.
 pub const STATUS_ABOVE_0: u32 = 5;
-/// A refusal: the actual length is longer than the transfer.
-pub const ACTUAL_TOO_LONG: u32 = 6;
+/// A refusal: the completion doesn't fit its URB.
+pub const MISFIT: u32 = 6;
 /// A refusal: an IN's payload is shorter than the actual length.
 pub const SHORT_DATA: u32 = 7;
 
@@ -75,7 +81,7 @@ pub const BAD_COMMAND: u32 = 12;
 pub const BAD_DIRECTION: u32 = 13;
 /// A fault: a submit's transfer_buffer_length is too high.
 pub const BAD_LENGTH: u32 = 14;
-/// A fault: a submit's number_of_packets is that of an isochronous transfer.
+/// A fault: a submit's number_of_packets is neither 0 to 32 nor 0xffffffff.
 pub const BAD_PACKETS: u32 = 15;
 /// A fault: a submit's seqnum is pending.
 pub const SEQNUM_PENDING: u32 = 16;
@@ -154,6 +160,16 @@ pub struct Transfer {
     pub interval: u32,
 }
 
+/// A packet of an isochronous transfer: its part of the transfer's buffer, as it came.
+#[repr(C)]
+#[derive(Clone, Copy, Debug, Default, PartialEq, Eq)]
+pub struct Packet {
+    /// Where it starts.
+    pub offset: u32,
+    /// How long it is.
+    pub length: u32,
+}
+
 /// A message's header, as read.
 #[repr(C)]
 #[derive(Clone, Copy, Debug, PartialEq, Eq)]
@@ -180,8 +196,10 @@ pub struct Progress {
     pub filled: usize,
     /// Its header, once that is whole.
     pub header: Header,
-    /// How much of its OUT data came.
+    /// How much came behind its header: OUT data, then descriptors.
     pub body: usize,
+    /// What came of its packets' descriptors.
+    pub descriptors: [u8; MAX_PACKETS * DESCRIPTOR_LEN],
 }
 
 /// Accepted submits, and how many of them have each end.
@@ -224,6 +242,8 @@ pub struct Urb {
     pub setup: [u8; SETUP_LEN],
     /// The time given with the feed that accepted it.
     pub arrival: u32,
+    /// The submit's packets, if it is isochronous; the other places are 0.
+    pub iso: [Packet; MAX_PACKETS],
 }
 
 /// The pending URBs, lowest ticket first.
@@ -283,6 +303,8 @@ pub struct Event {
     pub setup: [u8; SETUP_LEN],
     /// An accepted submit's arrival: the time given with this feed.
     pub arrival: u32,
+    /// An accepted submit's packets, if it is isochronous.
+    pub iso: [Packet; MAX_PACKETS],
 }
 
 /// What [`rimemaple_open`] answers.
@@ -311,7 +333,7 @@ pub struct Fed {
     pub dropped: Tickets,
 }
 
-/// What [`rimemaple_complete`] answers.
+/// What [`rimemaple_complete`] and [`rimemaple_complete_iso`] answer.
 #[repr(C)]
 #[derive(Clone, Copy, Debug, PartialEq, Eq)]
 pub struct Completed {
@@ -387,12 +409,34 @@ pub struct Limits {
     pub pending: usize,
     /// Bytes of a transfer, at most.
     pub transfer: usize,
+    /// Packets of an isochronous URB, at most.
+    pub packets: usize,
     /// The least size of a work buffer.
     pub work: usize,
     /// The least size of a reply buffer.
     pub reply: usize,
     /// The least size of a header buffer.
     pub header: usize,
+}
+
+/// What the device did with a packet of an isochronous URB.
+#[repr(C)]
+#[derive(Clone, Copy, Debug, Default, PartialEq, Eq)]
+pub struct Result {
+    /// The bytes that were transferred, at most the packet's length.
+    pub actual: u32,
+    /// Sent as it is; any but 0 counts as an error.
+    pub status: i32,
+}
+
+/// One for each packet, in their order.
+#[repr(C)]
+#[derive(Clone, Copy, Debug, PartialEq, Eq)]
+pub struct Results {
+    /// Their places; the first `count` are in use.
+    pub list: [Result; MAX_PACKETS],
+    /// How many there are.
+    pub count: usize,
 }
 
 // SAFETY: these are the header's declarations. A function that is lent nothing asks nothing of its caller.
@@ -417,7 +461,7 @@ unsafe extern "C" {
         time: u32,
     ) -> Fed;
 
-    /// The device is done with a ticket.
+    /// The device is done with a ticket that isn't isochronous.
     ///
     /// # Safety
     ///
@@ -428,6 +472,24 @@ unsafe extern "C" {
         ticket: u64,
         status: i32,
         actual: u32,
+        payload: *const u8,
+        payload_length: usize,
+        header: *mut u8,
+        header_length: usize,
+    ) -> Completed;
+
+    /// The device is done with an isochronous ticket.
+    ///
+    /// # Safety
+    ///
+    /// Each pointer has as many bytes behind it as its length says (with length 0 it may be any), and the header
+    /// doesn't overlap the payload.
+    pub unsafe fn rimemaple_complete_iso(
+        session: Session,
+        ticket: u64,
+        status: i32,
+        total: u32,
+        results: Results,
         payload: *const u8,
         payload_length: usize,
         header: *mut u8,
@@ -457,6 +519,7 @@ unsafe extern "C" {
         payload: *const u8,
         payload_length: usize,
         n: usize,
+        packets: usize,
         sent: usize,
         most: usize,
     ) -> Part;

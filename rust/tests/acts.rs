@@ -4,8 +4,8 @@ mod support;
 
 use rimemaple::{
     check, limits, version, Event, Fault, Limits, Numbers, Refusal, Returned, Session, Table,
-    DIR_OUT, HEADER_LEN, MAX_DEVICES, MAX_INTERFACES, MAX_PENDING, MAX_TRANSFER, REPLY_LEN,
-    WORK_LEN,
+    DIR_OUT, HEADER_ROOM, MAX_DEVICES, MAX_INTERFACES, MAX_PACKETS, MAX_PENDING, MAX_TRANSFER,
+    REPLY_LEN, WORK_LEN,
 };
 use support::{header, import, list, submit, submit_out, unlink, Host, BUSID, DEVID, UNTOUCHED};
 
@@ -18,9 +18,10 @@ fn the_archive_is_this_packages() {
         interfaces: MAX_INTERFACES,
         pending: MAX_PENDING,
         transfer: MAX_TRANSFER,
+        packets: MAX_PACKETS,
         work: WORK_LEN,
         reply: REPLY_LEN,
-        header: HEADER_LEN,
+        header: HEADER_ROOM,
     };
     assert_eq!(limits(), expected);
 }
@@ -99,6 +100,7 @@ fn a_submit_comes_with_every_field() {
         transfer,
         setup,
         arrival,
+        iso,
     } = Host::attached().feed_at(16, &header(&words)).unwrap().event
     else {
         panic!("not accepted");
@@ -114,6 +116,7 @@ fn a_submit_comes_with_every_field() {
     );
     assert_eq!(setup, [1, 2, 3, 4, 5, 6, 7, 8]);
     assert_eq!(arrival, 16);
+    assert_eq!(*iso, [], "it isn't isochronous");
 }
 
 #[test]
@@ -180,7 +183,7 @@ fn short_buffers_are_refused() {
     assert_eq!(host.feed(&submit(2, 64)), Err(Refusal::SHORT_BUFFER));
     let short = host
         .session
-        .complete(1, 0, 0, &[], &mut [0; HEADER_LEN - 1]);
+        .complete(1, 0, 0, &[], &mut [0; HEADER_ROOM - 1]);
     assert_eq!(short, Err(Refusal::SHORT_BUFFER));
     assert_eq!(host.session, before);
 }
@@ -188,11 +191,11 @@ fn short_buffers_are_refused() {
 #[test]
 fn completions_are_refused_in_the_tables_order() {
     let mut host = Host::with_pending(1);
-    let mut header = [0; HEADER_LEN];
+    let mut header = [0; HEADER_ROOM];
     for (ticket, status, actual, refusal) in [
         (2, 1, 65, Refusal::NOT_PENDING),
         (1, 1, 65, Refusal::STATUS_ABOVE_0),
-        (1, 0, 65, Refusal::ACTUAL_TOO_LONG),
+        (1, 0, 65, Refusal::MISFIT),
         (1, 0, 64, Refusal::SHORT_DATA),
     ] {
         let done = host
@@ -212,7 +215,7 @@ fn completions_are_refused_in_the_tables_order() {
 
 #[test]
 fn a_short_read_is_sent_with_121_if_the_client_asked() {
-    let mut header = [0; HEADER_LEN];
+    let mut header = [0; HEADER_ROOM];
     for (flags, actual, status) in [(1, 63, -121), (1, 64, 0), (0x201, 0, -121), (2, 63, 0)] {
         let mut host = Host::attached();
         let mut message = submit(1, 64);

@@ -2,10 +2,10 @@
 
 mod support;
 
-use rimemaple::sys::{self, Event, Fed, Session, Tickets, Transfer};
-use rimemaple::{HEADER_LEN, MAX_PENDING, REPLY_LEN, SETUP_LEN, WORK_LEN};
+use rimemaple::sys::{self, Event, Fed, Packet, Results, Session, Tickets, Transfer};
+use rimemaple::{HEADER_ROOM, MAX_PACKETS, MAX_PENDING, REPLY_LEN, SETUP_LEN, WORK_LEN};
 use std::ptr::{null, null_mut};
-use support::{header, import, list, submit, unlink, Host, BUSID, DEVID};
+use support::{header, import, list, submit, submit_iso, unlink, Host, BUSID, DEVID};
 
 const NO_TRANSFER: Transfer = Transfer {
     seqnum: 0,
@@ -31,6 +31,7 @@ fn event(kind: u32, number: u32, status: i32, seqnum: u32, removed: u64) -> Even
         transfer: NO_TRANSFER,
         setup: [0; SETUP_LEN],
         arrival: 0,
+        iso: [Packet::default(); MAX_PACKETS],
     }
 }
 
@@ -51,6 +52,18 @@ fn accepted(ticket: u64) -> Event {
         },
         ..event(sys::SUBMIT, 0, 0, 0, 0)
     }
+}
+
+/// The event of `submit_iso(7, 100, &[(10, 20), (40, 60)])`: zeros behind its packets.
+fn accepted_iso(ticket: u64) -> Event {
+    let mut event = accepted(ticket);
+    event.transfer.ep = 3;
+    event.transfer.length = 100;
+    event.transfer.packets = 2;
+    for (place, (offset, length)) in event.iso.iter_mut().zip([(10, 20), (40, 60)]) {
+        *place = Packet { offset, length };
+    }
+    event
 }
 
 fn feed(session: Session, piece: &[u8]) -> Fed {
@@ -91,9 +104,13 @@ fn what_an_event_does_not_have_is_0() {
         (&import(BUSID)[8..], event(sys::IMPORT, 0, 0, 0, 0)),
         (&submit(7, 64), accepted(1)),
         (&bad_ep(8), event(sys::ANSWER, 0, -22, 8, 0)),
+        (
+            &submit_iso(8, 100, &[(10, 91)]),
+            event(sys::ANSWER, 0, -22, 8, 0),
+        ),
         (&unlink(9, 7), event(sys::UNLINK, 0, -104, 9, 1)),
         (&unlink(9, 7), event(sys::UNLINK, 0, 0, 9, 0)),
-        (&submit(7, 64), accepted(2)),
+        (&submit_iso(7, 100, &[(10, 20), (40, 60)]), accepted_iso(2)),
         (
             &submit(7, 64),
             Event {
@@ -118,7 +135,11 @@ fn what_an_event_does_not_have_is_0() {
 #[test]
 fn an_empty_slice_may_be_null() {
     let session = *Host::with_pending(1).session.as_sys();
-    let mut header = [0; HEADER_LEN];
+    let mut header = [0; HEADER_ROOM];
+    let results = Results {
+        list: [sys::Result::default(); MAX_PACKETS],
+        count: 0,
+    };
     // SAFETY: pointers and lengths are those of slices, or null and 0.
     unsafe {
         let fed = sys::rimemaple_feed(session, null(), 0, null_mut(), 0, null_mut(), 0, 0);
@@ -129,10 +150,15 @@ fn an_empty_slice_may_be_null() {
         let (to, size) = (header.as_mut_ptr(), header.len());
         let completed = sys::rimemaple_complete(session, 1, 0, 0, null(), 0, null_mut(), 0);
         assert_eq!(completed.refusal, sys::SHORT_BUFFER);
+        let completed =
+            sys::rimemaple_complete_iso(session, 1, 0, 0, results, null(), 0, null_mut(), 0);
+        assert_eq!(completed.refusal, sys::SHORT_BUFFER);
+        let completed = sys::rimemaple_complete_iso(session, 1, 0, 0, results, null(), 0, to, size);
+        assert_eq!(completed.refusal, sys::MISFIT);
         let completed = sys::rimemaple_complete(session, 1, 0, 0, null(), 0, to, size);
         assert_eq!((completed.refusal, completed.length), (0, 48));
         assert_eq!(completed.status, 0);
-        let part = sys::rimemaple_part(null(), 0, null(), 0, 0, 0, 1);
+        let part = sys::rimemaple_part(null(), 0, null(), 0, 0, 0, 0, 1);
         assert_eq!(part.length, 0);
     }
 }

@@ -17,12 +17,35 @@ fn submit(seqnum: u32, direction: u32, length: u32) -> Vec<u8> {
     words([1, seqnum, DEVID, direction, 1, 0, length, 0, 0, 0, 0, 0])
 }
 
+/// Isochronous, with offset and length of each packet.
+fn submit_iso(seqnum: u32, length: u32, packets: [(u32, u32); 2]) -> Vec<u8> {
+    let header = words([1, seqnum, DEVID, IN, 1, 0, length, 0, 2, 1, 0, 0]);
+    let asked = packets.map(|(offset, length)| [offset, length, 0, 0]);
+    [header, descriptors(asked)].concat()
+}
+
+/// Offset, length, actual length and status of each packet.
+fn descriptors(fields: [[u32; 4]; 2]) -> Vec<u8> {
+    fields
+        .concat()
+        .into_iter()
+        .flat_map(u32::to_be_bytes)
+        .collect()
+}
+
 fn unlink(seqnum: u32, target: u32) -> Vec<u8> {
     words([2, seqnum, DEVID, 0, 0, target, 0, 0, 0, 0, 0, 0])
 }
 
 fn returned(seqnum: u32, actual: u32) -> Vec<u8> {
     words([3, seqnum, 0, 0, 0, 0, actual, 0, 0, 0, 0, 0])
+}
+
+/// The reply to an isochronous submit whose packets are transferred whole.
+fn returned_iso(seqnum: u32, data: Vec<u8>, packets: [(u32, u32); 2]) -> Vec<u8> {
+    let header = words([3, seqnum, 0, 0, 0, 0, data.len() as u32, 0, 2, 0, 0, 0]);
+    let whole = packets.map(|(offset, length)| [offset, length, length, 0]);
+    [header, data, descriptors(whole)].concat()
 }
 
 fn unlinked(seqnum: u32, status: i32) -> Vec<u8> {
@@ -93,7 +116,7 @@ fn import(client: &mut Client) {
 }
 
 /// A picture; then one that is cancelled, whose seqnum is used again at once: the second submit gets the third picture, never the
-/// second, which comes late.
+/// second, which comes late. Then one in two packets with gaps around them, which the data doesn't have.
 fn story(host: &Path) -> String {
     let mut client = Client::of(host);
     import(&mut client);
@@ -105,6 +128,9 @@ fn story(host: &Path) -> String {
     client.says(&out[..70]);
     client.says(&out[70..]);
     client.hears(&returned(10, 100));
+    let packets = [(10, 20), (40, 50)];
+    client.says(&submit_iso(11, 100, packets));
+    client.hears(&returned_iso(11, picture(4, 70), packets));
     client.hangs_up()
 }
 
@@ -142,7 +168,7 @@ fn in_c() -> PathBuf {
 #[test]
 fn the_host_in_c() {
     let log = story(&in_c());
-    assert_eq!(log, "ticket 2: refused 4, its picture is dropped\naccepted 4, returned 3, unlinked 1, dropped 0\n");
+    assert_eq!(log, "ticket 2: refused 4, its picture is dropped\naccepted 5, returned 4, unlinked 1, dropped 0\n");
 }
 
 #[test]
@@ -150,6 +176,6 @@ fn the_host_in_rust() {
     let log = story(&in_rust());
     assert_eq!(
         log,
-        "ticket 2: refused 4: ticket not pending: its picture is dropped\naccepted 4, returned 3, unlinked 1, dropped 0\n"
+        "ticket 2: refused 4: ticket not pending: its picture is dropped\naccepted 5, returned 4, unlinked 1, dropped 0\n"
     );
 }

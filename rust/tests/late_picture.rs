@@ -2,7 +2,7 @@
 
 mod support;
 
-use rimemaple::{Refusal, Returned, HEADER_LEN};
+use rimemaple::{Refusal, Returned, HEADER_LEN, HEADER_ROOM};
 use support::{submit, unlink, Host, UNTOUCHED};
 
 const PICTURE_LEN: u32 = 16_384;
@@ -11,7 +11,7 @@ const PICTURE_LEN: u32 = 16_384;
 fn the_new_request_gets_its_own_picture() {
     let old_picture = vec![1; PICTURE_LEN as usize];
     let new_picture = vec![2; PICTURE_LEN as usize];
-    let mut header = [UNTOUCHED; HEADER_LEN];
+    let mut header = [UNTOUCHED; HEADER_ROOM];
     let mut host = Host::attached();
 
     assert_eq!(host.submit(&submit(7, PICTURE_LEN)), 1);
@@ -24,7 +24,7 @@ fn the_new_request_gets_its_own_picture() {
         .session
         .complete(1, 0, PICTURE_LEN, &old_picture, &mut header);
     assert_eq!(late, Err(Refusal::NOT_PENDING));
-    assert_eq!(header, [UNTOUCHED; HEADER_LEN]);
+    assert_eq!(header, [UNTOUCHED; HEADER_ROOM]);
     assert_eq!(host.session, before);
 
     let returned = host
@@ -36,7 +36,7 @@ fn the_new_request_gets_its_own_picture() {
     };
     assert_eq!(returned, Ok(whole));
     assert_eq!(
-        header.to_vec(),
+        header[..HEADER_LEN],
         support::header(&[3, 7, 0, 0, 0, 0, PICTURE_LEN])
     );
 

@@ -39,10 +39,11 @@ fn size_of_field<S, F>(_: fn(&S) -> &F) -> usize {
 }
 
 constants! {
-    VERSION MAX_DEVICES MAX_INTERFACES MAX_PENDING MAX_TRANSFER
-    PATH_LEN BUSID_LEN SETUP_LEN WORK_LEN REPLY_LEN HEADER_LEN DIR_OUT DIR_IN OF_HEADER OF_PAYLOAD
+    VERSION MAX_DEVICES MAX_INTERFACES MAX_PENDING MAX_TRANSFER MAX_PACKETS
+    PATH_LEN BUSID_LEN SETUP_LEN DESCRIPTOR_LEN HEADER_LEN WORK_LEN REPLY_LEN HEADER_ROOM
+    DIR_OUT DIR_IN OF_HEADER OF_PAYLOAD
     HUNGRY LIST IMPORT SUBMIT ANSWER UNLINK BREAK REFUSED
-    SHORT_BUFFER BAD_TABLE SESSION_CLOSED NOT_PENDING STATUS_ABOVE_0 ACTUAL_TOO_LONG SHORT_DATA
+    SHORT_BUFFER BAD_TABLE SESSION_CLOSED NOT_PENDING STATUS_ABOVE_0 MISFIT SHORT_DATA
     BAD_VERSION BAD_CODE BAD_COMMAND BAD_DIRECTION BAD_LENGTH BAD_PACKETS SEQNUM_PENDING
     DIRTY_PADDING BAD_DEVID
 }
@@ -55,15 +56,16 @@ structs! {
     }
     Table { devices count }
     Transfer { seqnum direction ep flags length start packets interval }
+    Packet { offset length }
     Header { command devid transfer setup dirty }
-    Progress { head filled header body }
+    Progress { head filled header body descriptors }
     Counts { accepted returned unlinked dropped }
     Link { phase devid progress counts }
-    Urb { ticket transfer setup arrival }
+    Urb { ticket transfer setup arrival iso }
     Pending { urbs count }
     Session { table link pending }
     Tickets { tickets count }
-    Event { kind number status seqnum at removed ticket transfer setup arrival }
+    Event { kind number status seqnum at removed ticket transfer setup arrival iso }
     Opened { session refusal }
     Fed { session event consumed length dropped }
     Completed { session refusal status length }
@@ -71,7 +73,9 @@ structs! {
     Inquired { refusal stale }
     Numbers { accepted pending returned unlinked dropped }
     Part { slice at length }
-    Limits { devices interfaces pending transfer work reply header }
+    Limits { devices interfaces pending transfer packets work reply header }
+    Result { actual status }
+    Results { list count }
 }
 
 fn include() -> PathBuf {

@@ -4,17 +4,17 @@ mod support;
 
 use rimemaple::{Device, Fault, Refusal, Session, Table, Unfit};
 use std::error::Error;
-use support::{header, import, list, submit, submit_out, unlink, Host, BUSID, DEVID};
+use support::{header, import, list, submit, submit_iso, submit_out, unlink, Host, BUSID, DEVID};
 
 #[test]
 fn refusals_and_faults_in_words() {
     let refusals = [
-        "refused 1: work under 16384, reply under 8192 or header under 48 bytes",
+        "refused 1: work under 16896, reply under 8192 or header under 560 bytes",
         "refused 2: a table rule is broken",
         "refused 3: feed, complete or close on a closed session",
         "refused 4: ticket not pending",
         "refused 5: status above 0",
-        "refused 6: actual length above transfer_buffer_length",
+        "refused 6: the completion doesn't fit its URB",
         "refused 7: IN, data shorter than actual length",
     ];
     for (number, words) in (1..).zip(refusals) {
@@ -27,7 +27,7 @@ fn refusals_and_faults_in_words() {
         "broken 12: command not 1 or 2",
         "broken 13: direction not 0 or 1",
         "broken 14: transfer_buffer_length above 16384",
-        "broken 15: number_of_packets not 0 or 0xffffffff",
+        "broken 15: number_of_packets not 0 to 32 nor 0xffffffff",
         "broken 16: submit's seqnum is pending",
         "broken 17: request's status, or unlink's padding, not 0",
         "broken 18: unlink's devid isn't the attached device's",
@@ -87,6 +87,10 @@ fn an_event_is_one_line() {
             "submit: ticket 2, seqnum 8, OUT, ep 2, length 3",
         ),
         (
+            &submit_iso(20, 100, &[(0, 50), (50, 50)]),
+            "submit: ticket 3, seqnum 20, IN, ep 3, length 100, packets 2",
+        ),
+        (
             &header(&[1, 9, DEVID, 1, 16]),
             "answer: seqnum 9, status -22",
         ),
@@ -94,11 +98,11 @@ fn an_event_is_one_line() {
         (&unlink(11, 7), "unlink: seqnum 11, status 0"),
         (
             &submit(7, 64),
-            "submit: ticket 3, seqnum 7, IN, ep 1, length 64",
+            "submit: ticket 4, seqnum 7, IN, ep 1, length 64",
         ),
         (
             &header(&[1, 12, DEVID, 2]),
-            "broken 13 at 12: direction not 0 or 1, dropped 2, dropped 3",
+            "broken 13 at 12: direction not 0 or 1, dropped 2, dropped 3, dropped 4",
         ),
     ] {
         assert_eq!(host.event(piece).to_string(), line);

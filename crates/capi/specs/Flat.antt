@@ -7,6 +7,7 @@ use lib.ListN.{length, take, drop}
 use Rattle.wire.specs.Codes.{HEADER-LEN}
 use Rattle.limits.specs.Limits
 use Rattle.messages.specs.declared.message.Transfer.{Transfer}
+use Rattle.packets.specs.declared.packet.Packet.{Packet}
 use Rattle.pending.specs.Pending.{noTransfer}
 use Rattle.pending.specs.declared.counts.Numbers.{Numbers}
 use Rattle.events.specs.declared.answer.Opening.{Opening}
@@ -63,8 +64,8 @@ BREAK = 6
 abbrev pub REFUSED : ℕ
 REFUSED = 7
 
-abbrev pub eventRow : (kind number status seqnum at removed ticket : ℕ) → Transfer → (setup : List ℕ) → (arrival : ℕ) → FlatEvent
-eventRow kind number status seqnum at removed ticket transfer setup arrival =
+abbrev pub eventRow : (kind number status seqnum at removed ticket : ℕ) → Transfer → (setup : List ℕ) → (arrival : ℕ) → List Packet → FlatEvent
+eventRow kind number status seqnum at removed ticket transfer setup arrival iso =
     record {
       kind = kind;
       number = number;
@@ -76,6 +77,7 @@ eventRow kind number status seqnum at removed ticket transfer setup arrival =
       transfer = transfer;
       setup = setup;
       arrival = arrival;
+      iso = iso;
     }
 
 -- Tickets count from 1, so that 0 is none.
@@ -83,16 +85,16 @@ abbrev pub removedTicket : Removed → ℕ
 removedTicket (Ticket t) = t
 removedTicket Nothing = 0
 
--- What an event doesn't have is 0.     kind    number      status  seqnum  at      removed            ticket  transfer   setup  arrival
-abbrev pub flatEvent : Event → List ℕ → FlatEvent
-flatEvent Hungry setup = eventRow HUNGRY 0 0 0 0 0 0 noTransfer setup 0
-flatEvent Listed setup = eventRow LIST 0 0 0 0 0 0 noTransfer setup 0
-flatEvent (Import st) setup = eventRow IMPORT 0 st 0 0 0 0 noTransfer setup 0
-flatEvent (Submit t a u) setup = eventRow SUBMIT 0 0 0 0 0 t u setup a
-flatEvent (Answer q st) setup = eventRow ANSWER 0 st q 0 0 0 noTransfer setup 0
-flatEvent (Unlink q st r) setup = eventRow UNLINK 0 st q 0 (removedTicket r) 0 noTransfer setup 0
-flatEvent (Break f) setup = eventRow BREAK (f .number) 0 0 (f .at) 0 0 noTransfer setup 0
-flatEvent (Refused n) setup = eventRow REFUSED n 0 0 0 0 0 noTransfer setup 0
+-- What an event doesn't have is 0.     kind    number      status  seqnum  at      removed            ticket  transfer   setup  arrival iso
+abbrev pub flatEvent : Event → List ℕ → List Packet → FlatEvent
+flatEvent Hungry setup iso = eventRow HUNGRY 0 0 0 0 0 0 noTransfer setup 0 iso
+flatEvent Listed setup iso = eventRow LIST 0 0 0 0 0 0 noTransfer setup 0 iso
+flatEvent (Import st) setup iso = eventRow IMPORT 0 st 0 0 0 0 noTransfer setup 0 iso
+flatEvent (Submit t a u) setup iso = eventRow SUBMIT 0 0 0 0 0 t u setup a iso
+flatEvent (Answer q st) setup iso = eventRow ANSWER 0 st q 0 0 0 noTransfer setup 0 iso
+flatEvent (Unlink q st r) setup iso = eventRow UNLINK 0 st q 0 (removedTicket r) 0 noTransfer setup 0 iso
+flatEvent (Break f) setup iso = eventRow BREAK (f .number) 0 0 (f .at) 0 0 noTransfer setup 0 iso
+flatEvent (Refused n) setup iso = eventRow REFUSED n 0 0 0 0 0 noTransfer setup 0 iso
 
 -- ## What the acts hand back: 0, or a refusal's number
 
@@ -128,7 +130,7 @@ flatFed r =
     let a = r .answer in
     record {
       session = r .session;
-      event = flatEvent (a .event) (a .setup);
+      event = flatEvent (a .event) (a .setup) (a .iso);
       consumed = a .consumed;
       length = a .length;
       dropped = r .dropped;
@@ -160,11 +162,13 @@ OF-PAYLOAD = 1
 abbrev pub partRow : (slice at size : ℕ) → FlatPart
 partRow slice at size = record { slice = slice; at = at; length = size }
 
--- Where a part of so many bytes stands, when `sent` are out; an empty one stands at the header's start.
-abbrev pub flatPart : (size sent : ℕ) → FlatPart
-flatPart size sent =
+-- Where a part of so many bytes stands, when `sent` are out of a reply with n bytes of data; an empty one stands at the header's start. The
+-- descriptors stand behind the header's 48 bytes.
+abbrev pub flatPart : (size n sent : ℕ) → FlatPart
+flatPart size n sent =
     cond (eqb size 0) (partRow OF-HEADER 0 0)
-    (cond (ltb sent HEADER-LEN) (partRow OF-HEADER sent size) (partRow OF-PAYLOAD (sent - HEADER-LEN) size))
+    (cond (ltb sent HEADER-LEN) (partRow OF-HEADER sent size)
+    (cond (ltb (sent - HEADER-LEN) n) (partRow OF-PAYLOAD (sent - HEADER-LEN) size) (partRow OF-HEADER (sent - n) size)))
 
 -- The bytes that stand there.
 abbrev pub bytesAt : FlatPart → (header payload : List ℕ) → List ℕ
@@ -174,7 +178,7 @@ bytesAt p header payload = take (p .length) (drop (p .at) (cond (eqb (p .slice) 
 
 -- It rises with each change of a function, a struct or an answer.
 abbrev pub FACE-VERSION : ℕ
-FACE-VERSION = 5
+FACE-VERSION = 6
 
 abbrev pub flatLimits : FlatLimits
 flatLimits =
@@ -183,7 +187,8 @@ flatLimits =
       interfaces = Limits.MAX-INTERFACES;
       pending = Limits.MAX-PENDING;
       transfer = Limits.MAX-TRANSFER;
+      packets = Limits.MAX-PACKETS;
       work = Limits.WORK-LEN;
       reply = Limits.REPLY-LEN;
-      header = HEADER-LEN;
+      header = Limits.HEADER-ROOM;
     }

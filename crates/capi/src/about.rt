@@ -1,16 +1,17 @@
 // The limits that this archive was built with, and the version of its face.
+use limits::HEADER_ROOM;
 use limits::MAX_DEVICES;
 use limits::MAX_INTERFACES;
+use limits::MAX_PACKETS;
 use limits::MAX_PENDING;
 use limits::MAX_TRANSFER;
 use limits::REPLY_LEN;
 use limits::WORK_LEN;
-use wire::codes::HEADER_LEN;
 ghost use mathlib.Core.Path.{_≡_};
 ghost use Rattle.capi.specs.Flat.{FACE-VERSION, flatLimits};
 
 // Rises with each change of a function, a struct or an answer.
-pub const FACE_VERSION: u32 = 5;
+pub const FACE_VERSION: u32 = 6;
 
 #[repr(C)]
 pub struct FlatLimits {
@@ -18,6 +19,7 @@ pub struct FlatLimits {
     pub interfaces: usize,
     pub pending: usize,
     pub transfer: usize,
+    pub packets: usize,
     pub work: usize,
     pub reply: usize,
     pub header: usize,
@@ -32,9 +34,10 @@ pub extern "C" fn rimemaple_limits() -> FlatLimits
         interfaces: MAX_INTERFACES,
         pending: MAX_PENDING,
         transfer: MAX_TRANSFER as usize,
+        packets: MAX_PACKETS,
         work: WORK_LEN,
         reply: REPLY_LEN,
-        header: HEADER_LEN,
+        header: HEADER_ROOM,
     }
 }
 

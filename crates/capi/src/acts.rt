@@ -6,16 +6,17 @@ use crate::flat::FlatInquired;
 use crate::flat::FlatNumbers;
 use crate::flat::FlatOpened;
 use crate::flat::closing_number;
-use crate::flat::completion_length;
-use crate::flat::completion_number;
-use crate::flat::completion_status;
+use crate::flat::flat_completed;
 use crate::flat::flat_event;
 use crate::flat::inquiry_number;
 use crate::flat::opening_number;
 use exports::device::Table;
+use results::Results;
 use session::state::Session;
 ghost use mathlib.Core.Path.{_≡_};
+ghost use Rattle.results.specs.Results.{resultsOf};
 ghost use Rattle.model.specs.State.{numbersOf, servedDevid};
+ghost use Rattle.model.specs.Acts.{plain, isochronous};
 ghost use Rattle.model.specs.Cut.{lent};
 ghost use Rattle.session.specs.Views.{viewOf, handed};
 ghost use Rattle.capi.specs.Flat.{flatNumbers};
@@ -50,10 +51,11 @@ pub extern "C" fn rimemaple_feed(
     let answer = fed.answer;
     let event = answer.event;
     let setup = answer.setup;
+    let iso = answer.iso;
     let dropped = fed.dropped;
     FlatFed {
         session: next,
-        event: flat_event(event, setup),
+        event: flat_event(event, setup, iso),
         consumed: answer.consumed,
         length: answer.length,
         dropped: dropped,
@@ -69,17 +71,29 @@ pub extern "C" fn rimemaple_complete(
     payload: &[u8],
     header: &mut [u8],
 ) -> FlatCompleted
-    ensures { λ r. ⌜ CompletesFlat session (handed ticket status actual (now (payload .entry)) (now (header .entry))) (now (header .exit)) r ⌝ }
+    ensures { λ r. ⌜ CompletesFlat session (handed plain ticket status actual (now (payload .entry)) (now (header .entry))) (now (header .exit)) r ⌝ }
 {
     let done = session.complete(ticket, status, actual, payload, header);
-    let next = done.session;
-    let answer = done.answer;
-    FlatCompleted {
-        session: next,
-        refusal: completion_number(answer),
-        status: completion_status(answer),
-        length: completion_length(answer),
-    }
+    flat_completed(done)
+}
+
+// The same for an isochronous URB, with a result for each packet.
+#[no_mangle]
+pub extern "C" fn rimemaple_complete_iso(
+    session: Session,
+    ticket: u64,
+    status: u32,
+    total: u32,
+    results: Results,
+    payload: &[u8],
+    header: &mut [u8],
+) -> FlatCompleted
+    ensures { λ r.
+        ⌜ CompletesFlat session (handed (isochronous (resultsOf results)) ticket status total (now (payload .entry)) (now (header .entry)))
+        (now (header .exit)) r ⌝ }
+{
+    let done = session.complete_iso(ticket, status, total, results, payload, header);
+    flat_completed(done)
 }
 
 #[no_mangle]

@@ -5,8 +5,11 @@ use events::answer::Event;
 use events::answer::Inquiry;
 use events::answer::Opening;
 use events::answer::Removed;
+use limits::MAX_PACKETS;
 use messages::message::Transfer;
+use packets::packet::Packet;
 use pending::list::Tickets;
+use session::answer::Completed;
 use session::state::Session;
 use verdicts::verdict::Fault;
 use wire::codes::SETUP_LEN;
@@ -14,7 +17,7 @@ ghost use mathlib.Core.Path.{_≡_};
 ghost use Rattle.pending.specs.Pending.{noTransfer};
 ghost use Rattle.capi.specs.Flat;
 ghost use Rattle.capi.specs.Flat.{eventRow, removedTicket, flatEvent, openingNumber, completionNumber, completionStatus, completionLength, closingNumber};
-ghost use Rattle.capi.specs.Flat.{inquiryNumber};
+ghost use Rattle.capi.specs.Flat.{inquiryNumber, flatCompleted};
 
 // The kinds of an event.
 pub const HUNGRY: u32 = 0;
@@ -35,7 +38,7 @@ pub const REFUSED: u32 = 7;
 
 // An event: its kind; the number of a refusal or a break; an import's, answer's or unlink's status; an answer's or unlink's seqnum;
 // the byte of its message at which a break's fault stands; the ticket that an unlink removed, 0 if none; an accepted submit's ticket,
-// transfer, setup bytes and arrival. What an event doesn't have is 0.
+// transfer, setup bytes, arrival and packets. What an event doesn't have is 0.
 #[repr(C)]
 pub struct FlatEvent {
     pub kind: u32,
@@ -48,6 +51,7 @@ pub struct FlatEvent {
     pub transfer: Transfer,
     pub setup: [u8; SETUP_LEN],
     pub arrival: u32,
+    pub iso: [Packet; MAX_PACKETS],
 }
 
 // What the acts hand back: the next session; a refusal's number, or 0; and what stands beside.
@@ -113,8 +117,8 @@ fn no_transfer() -> Transfer
 }
 
 // An event that has nothing but its kind.
-fn bare(kind: u32, setup: [u8; SETUP_LEN]) -> FlatEvent
-    ensures { λ r. ⌜ r ≡ eventRow kind 0 0 0 0 0 0 noTransfer setup 0 ⌝ }
+fn bare(kind: u32, setup: [u8; SETUP_LEN], iso: [Packet; MAX_PACKETS]) -> FlatEvent
+    ensures { λ r. ⌜ r ≡ eventRow kind 0 0 0 0 0 0 noTransfer setup 0 iso ⌝ }
 {
     FlatEvent {
         kind: kind,
@@ -127,6 +131,7 @@ fn bare(kind: u32, setup: [u8; SETUP_LEN]) -> FlatEvent
         transfer: no_transfer(),
         setup: setup,
         arrival: 0,
+        iso: iso,
     }
 }
 
@@ -140,10 +145,10 @@ fn removed_ticket(removed: Removed) -> u64
 }
 
 // One that has a number.
-fn numbered(kind: u32, number: u32, setup: [u8; SETUP_LEN]) -> FlatEvent
-    ensures { λ r. ⌜ r ≡ eventRow kind number 0 0 0 0 0 noTransfer setup 0 ⌝ }
+fn numbered(kind: u32, number: u32, setup: [u8; SETUP_LEN], iso: [Packet; MAX_PACKETS]) -> FlatEvent
+    ensures { λ r. ⌜ r ≡ eventRow kind number 0 0 0 0 0 noTransfer setup 0 iso ⌝ }
 {
-    let e = bare(kind, setup);
+    let e = bare(kind, setup, iso);
     FlatEvent {
         number: number,
         ..e
@@ -151,18 +156,25 @@ fn numbered(kind: u32, number: u32, setup: [u8; SETUP_LEN]) -> FlatEvent
 }
 
 // A break: its fault's number and place.
-fn broken(fault: Fault, setup: [u8; SETUP_LEN]) -> FlatEvent
-    ensures { λ r. ⌜ r ≡ eventRow Flat.BREAK (fault .number) 0 0 (fault .at) 0 0 noTransfer setup 0 ⌝ }
+fn broken(fault: Fault, setup: [u8; SETUP_LEN], iso: [Packet; MAX_PACKETS]) -> FlatEvent
+    ensures { λ r. ⌜ r ≡ eventRow Flat.BREAK (fault .number) 0 0 (fault .at) 0 0 noTransfer setup 0 iso ⌝ }
 {
-    let e = numbered(BREAK, fault.number, setup);
+    let e = numbered(BREAK, fault.number, setup, iso);
     FlatEvent { at: fault.at, ..e }
 }
 
 // One that has a status, and what stands beside it.
-fn answered(kind: u32, status: u32, seqnum: u32, removed: u64, setup: [u8; SETUP_LEN]) -> FlatEvent
-    ensures { λ r. ⌜ r ≡ eventRow kind 0 status seqnum 0 removed 0 noTransfer setup 0 ⌝ }
+fn answered(
+    kind: u32,
+    status: u32,
+    seqnum: u32,
+    removed: u64,
+    setup: [u8; SETUP_LEN],
+    iso: [Packet; MAX_PACKETS],
+) -> FlatEvent
+    ensures { λ r. ⌜ r ≡ eventRow kind 0 status seqnum 0 removed 0 noTransfer setup 0 iso ⌝ }
 {
-    let e = bare(kind, setup);
+    let e = bare(kind, setup, iso);
     FlatEvent {
         status: status,
         seqnum: seqnum,
@@ -171,10 +183,16 @@ fn answered(kind: u32, status: u32, seqnum: u32, removed: u64, setup: [u8; SETUP
     }
 }
 
-fn accepted(ticket: u64, arrival: u32, transfer: Transfer, setup: [u8; SETUP_LEN]) -> FlatEvent
-    ensures { λ r. ⌜ r ≡ eventRow Flat.SUBMIT 0 0 0 0 0 ticket transfer setup arrival ⌝ }
+fn accepted(
+    ticket: u64,
+    arrival: u32,
+    transfer: Transfer,
+    setup: [u8; SETUP_LEN],
+    iso: [Packet; MAX_PACKETS],
+) -> FlatEvent
+    ensures { λ r. ⌜ r ≡ eventRow Flat.SUBMIT 0 0 0 0 0 ticket transfer setup arrival iso ⌝ }
 {
-    let e = bare(SUBMIT, setup);
+    let e = bare(SUBMIT, setup, iso);
     FlatEvent {
         ticket: ticket,
         transfer: transfer,
@@ -183,21 +201,25 @@ fn accepted(ticket: u64, arrival: u32, transfer: Transfer, setup: [u8; SETUP_LEN
     }
 }
 
-pub(crate) fn flat_event(event: Event, setup: [u8; SETUP_LEN]) -> FlatEvent
-    ensures { λ r. ⌜ r ≡ flatEvent event setup ⌝ }
+pub(crate) fn flat_event(
+    event: Event,
+    setup: [u8; SETUP_LEN],
+    iso: [Packet; MAX_PACKETS],
+) -> FlatEvent
+    ensures { λ r. ⌜ r ≡ flatEvent event setup iso ⌝ }
 {
     match event {
-        Event::Hungry => bare(HUNGRY, setup),
-        Event::List => bare(LIST, setup),
-        Event::Import(status) => answered(IMPORT, status, 0, 0, setup),
-        Event::Submit(ticket, arrival, transfer) => accepted(ticket, arrival, transfer, setup),
-        Event::Answer(seqnum, status) => answered(ANSWER, status, seqnum, 0, setup),
+        Event::Hungry => bare(HUNGRY, setup, iso),
+        Event::List => bare(LIST, setup, iso),
+        Event::Import(status) => answered(IMPORT, status, 0, 0, setup, iso),
+        Event::Submit(ticket, arrival, transfer) => accepted(ticket, arrival, transfer, setup, iso),
+        Event::Answer(seqnum, status) => answered(ANSWER, status, seqnum, 0, setup, iso),
         Event::Unlink(seqnum, status, removed) => {
             let ticket = removed_ticket(removed);
-            answered(UNLINK, status, seqnum, ticket, setup)
+            answered(UNLINK, status, seqnum, ticket, setup, iso)
         }
-        Event::Break(fault) => broken(fault, setup),
-        Event::Refused(n) => numbered(REFUSED, n, setup),
+        Event::Break(fault) => broken(fault, setup, iso),
+        Event::Refused(n) => numbered(REFUSED, n, setup, iso),
     }
 }
 
@@ -210,7 +232,7 @@ pub(crate) fn opening_number(answer: Opening) -> u32
     }
 }
 
-pub(crate) fn completion_number(answer: Completion) -> u32
+fn completion_number(answer: Completion) -> u32
     ensures { λ r. ⌜ r ≡ completionNumber answer ⌝ }
 {
     match answer {
@@ -219,7 +241,7 @@ pub(crate) fn completion_number(answer: Completion) -> u32
     }
 }
 
-pub(crate) fn completion_status(answer: Completion) -> u32
+fn completion_status(answer: Completion) -> u32
     ensures { λ r. ⌜ r ≡ completionStatus answer ⌝ }
 {
     match answer {
@@ -228,12 +250,26 @@ pub(crate) fn completion_status(answer: Completion) -> u32
     }
 }
 
-pub(crate) fn completion_length(answer: Completion) -> u64
+fn completion_length(answer: Completion) -> u64
     ensures { λ r. ⌜ r ≡ completionLength answer ⌝ }
 {
     match answer {
         Completion::Return(n, _) => n,
         Completion::Refused(_) => 0,
+    }
+}
+
+// What a completion of either kind hands back.
+pub(crate) fn flat_completed(done: Completed) -> FlatCompleted
+    ensures { λ r. ⌜ r ≡ flatCompleted done ⌝ }
+{
+    let next = done.session;
+    let answer = done.answer;
+    FlatCompleted {
+        session: next,
+        refusal: completion_number(answer),
+        status: completion_status(answer),
+        length: completion_length(answer),
     }
 }
 

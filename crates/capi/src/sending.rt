@@ -33,13 +33,14 @@ pub extern "C" fn rimemaple_part<'a>(
     header: &'a [u8],
     payload: &'a [u8],
     n: usize,
+    packets: usize,
     sent: usize,
     most: usize,
 ) -> FlatPart
-    ensures { λ r. ⌜ r ≡ flatPart (length (partOf (now (header .entry)) (now (payload .entry)) n sent most)) sent ⌝ }
-    ensures { λ r. ⌜ bytesAt r (now (header .entry)) (now (payload .entry)) ≡ partOf (now (header .entry)) (now (payload .entry)) n sent most ⌝ }
+    ensures { λ r. ⌜ r ≡ flatPart (length (partOf (now (header .entry)) (now (payload .entry)) n packets sent most)) n sent ⌝ }
+    ensures { λ r. ⌜ bytesAt r (now (header .entry)) (now (payload .entry)) ≡ partOf (now (header .entry)) (now (payload .entry)) n packets sent most ⌝ }
 {
-    let part = transmit::part(header, payload, n, sent, most);
+    let part = transmit::part(header, payload, n, packets, sent, most);
     let length = part.len();
     if length == 0 {
         return part_at(OF_HEADER, 0, 0);
@@ -47,5 +48,8 @@ pub extern "C" fn rimemaple_part<'a>(
     if sent < HEADER_LEN {
         return part_at(OF_HEADER, sent, length);
     }
-    part_at(OF_PAYLOAD, sent - HEADER_LEN, length)
+    if sent - HEADER_LEN < n {
+        return part_at(OF_PAYLOAD, sent - HEADER_LEN, length);
+    }
+    part_at(OF_HEADER, sent - n, length)
 }

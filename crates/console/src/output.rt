@@ -2,8 +2,8 @@
 use libc::STDOUT_FILENO;
 ghost use Prim.Native.Nat.{_≤_};
 
-// The output buffer, and how full it gets before it is printed. What is left then has room for the lines of a record: 342 messages
-// of 48 bytes fill one, and an accepted submit is traced in at most 250 bytes and two for each byte of its data.
+// The output buffer, and how full it gets before it is printed. What is left then has room for the lines of a record: 353 messages
+// of 48 bytes fill one, and a submit is traced in at most 250 bytes, two for each byte of its data and 32 for each packet.
 pub(crate) const OUTPUT_LEN: usize = 262_144;
 
 const FULL: usize = 131_072;

@@ -15,8 +15,14 @@ use native.Mathlib.Nat.{lt-of-not-le}
 use Rattle.wire.specs.Codes
 use Rattle.wire.specs.Status.{minus}
 use Rattle.ground.specs.Writing.{over}
-use Rattle.messages.specs.Messages.{busidOf, unlinkSeqnum}
+use Rattle.messages.specs.Messages.{busidOf, isoCount, unlinkSeqnum}
 use Rattle.messages.specs.declared.message.Header.{Header}
+use Rattle.packets.specs.Packets.{packetsOf, inArray}
+use Rattle.packets.specs.declared.packet.Packet.{Packet}
+use Rattle.packets.proofs.Reading.{packets-length}
+use Rattle.descriptors.specs.Descriptors.{refusedResults}
+use Rattle.descriptors.proofs.Laws.{descriptors-in-array}
+use Rattle.replies.specs.Replies.{submitReply}
 use Rattle.exports.specs.Devices.{devicesOf, noDevice}
 use Rattle.exports.specs.declared.device.Table.{Table}
 use Rattle.lookup.specs.Lookup.{deviceIn, devidIn}
@@ -39,10 +45,10 @@ use Rattle.verdicts.specs.declared.verdict.Fault.{Fault}
 use Rattle.ground.proofs.Match.{clear}
 use Rattle.verdicts.proofs.Tables.{submit-match}
 use Rattle.model.specs.State
-use Rattle.model.specs.State.{Message, headed, bytesIn, Sess, unlinked, oneAccepted}
+use Rattle.model.specs.State.{Message, headed, bytesIn, submitPackets, Sess, unlinked, oneAccepted}
 use Rattle.model.specs.Answers.{done, Event, hungry, list, import, submit, answer, unlink}
-use Rattle.model.specs.Judging.{breaks, urbOf, submitted, unlinks, lookedUp}
-use Rattle.model.specs.Acts.{Buffers, after, between, drops, replyTo, writeReply}
+use Rattle.model.specs.Judging.{breaks, urbOf, badPackets, submitted, unlinks, lookedUp}
+use Rattle.model.specs.Acts.{Buffers, after, between, drops, retFor, refusalFor, replyTo, writeReply}
 use Rattle.model.specs.Cut.{lent}
 use Rattle.links.specs.Links.{countsFit, progressFits, messageOf, during, viewOfParts, whole, linkWithProgress, resting, plus, endedLink, Attached, Clean}
 use Rattle.links.specs.Links.{Padded, TidyParts}
@@ -51,10 +57,12 @@ use Rattle.links.specs.declared.link.Progress.{Progress}
 use Rattle.links.proofs.Fits.{counts-known, even-counts, plus-fits}
 use Rattle.links.proofs.Tidy.{none-padded}
 use Rattle.links.proofs.Views.{view-fit, view-shut, view-attached}
-use Rattle.events.specs.Answers.{eventOf, noSetup, setupBeside, ticketsOf, droppedBy}
-use Rattle.events.specs.Plans.{Result, plain, withSetup, hungryPlan, brokenPlan, answeredPlan, acceptedPlan, submittedPlan, removedPlan, missedPlan}
-use Rattle.events.specs.Plans.{unlinkedPlan, listPlan, unknownPlan, importPlan, replyBytes, requestBytes, partsAfter, ticketsDropped, carriedWith}
+use Rattle.events.specs.Answers.{eventOf, urbBeside, ticketsOf, droppedBy}
+use Rattle.events.specs.Plans.{Result, plain, withIso, hungryPlan, brokenPlan, answeredPlan, acceptedPlan, submittedPlan, removedPlan, missedPlan}
+use Rattle.events.specs.Plans.{unlinkedPlan, listPlan, unknownPlan, importPlan, refusalBytes, replyBytes, requestBytes, partsAfter}
+use Rattle.events.specs.Plans.{ticketsDropped, carriedWith}
 use Rattle.events.specs.declared.answer.Event.{Event as Case}
+use Rattle.events.specs.declared.answer.Event.the-variants.{Submit}
 use Rattle.events.specs.declared.plan.Plan.{Plan}
 use Rattle.events.specs.declared.plan.Reply.{Reply}
 
@@ -63,7 +71,8 @@ unfoldable pub resultAt : Sess → Buffers → ℕ → Event → Result
 resultAt s b consumed e =
     record {
       event = done e;
-      setup = setupBeside (done e);
+      setup = urbBeside (done e) .setup;
+      iso = urbBeside (done e) .iso;
       dropped = ticketsOf (droppedBy (done e));
       consumed = consumed;
       length = length (replyTo s e);
@@ -85,19 +94,21 @@ module _ (t : Table) (k : Link) (l : Pending) (m : Message) (e : Event) where
   abbrev s : Sess
   s = during (whole t k l) m
 
-  says : (next : Link) (c : Change) (n : Case) (consumed : ℕ) (reply : Reply) (setup bytes : List ℕ)
-      → eventOf n setup (ticketsDropped l c) ≡ done e → setup ≡ setupBeside (done e) → ticketsDropped l c ≡ ticketsOf (droppedBy (done e))
-      → bytes ≡ replyTo s e → viewOfParts (whole t next (changed l c)) ≡ after s e → next .phase ≡ after s e .link .phase → (Clean l → Clean (changed l c))
-      → Says bytes (withSetup setup (plain next c n consumed reply)) t k l m consumed e
+  says : (next : Link) (c : Change) (n : Case) (consumed : ℕ) (reply : Reply) (iso : List Packet) (bytes : List ℕ)
+      → eventOf n (c .urb .setup) (c .urb .iso) (ticketsDropped l c) ≡ done e → c .urb ≡ urbBeside (done e)
+      → ticketsDropped l c ≡ ticketsOf (droppedBy (done e)) → bytes ≡ replyTo s e
+      → viewOfParts (whole t next (changed l c)) ≡ after s e → next .phase ≡ after s e .link .phase → (Clean l → Clean (changed l c))
+      → Says bytes (withIso iso (plain next c n consumed reply)) t k l m consumed e
   unfolding resultAt writeReply
-  says next c n consumed reply setup bytes v u d x w p g =
+  says next c n consumed reply iso bytes v u d x w p g =
       record {
         copies = (refl, refl, refl);
         said =
             λ piece b i.
             record {
               event = v i;
-              setup = u i;
+              setup = u i .setup;
+              iso = u i .iso;
               dropped = d i;
               consumed = consumed;
               length = length (x i);
@@ -132,7 +143,7 @@ pub hungry-says : (t : Table) (k : Link) (l : Pending) (p : Progress) (consumed 
 unfolding replyTo
 hungry-says t k l p consumed c f =
     let next = linkWithProgress p k in
-    says t k l (messageOf p) hungry next (keeps (l .count)) _ consumed _ noSetup [] refl refl refl refl
+    says t k l (messageOf p) hungry next (keeps (l .count)) _ consumed _ (inArray []) [] refl refl refl refl
     (kept t next l (counts-known (k .counts) (l .count) c .0) ∙ view-fit (whole t next l) c f)
     refl (keep-clean l)
 
@@ -164,7 +175,7 @@ pub broken-says : (t : Table) (k : Link) (l : Pending) (m : Message) (f : Fault)
     → k .counts .accepted ≤ Limits.LAST-TICKET → Says [] (brokenPlan k (l .count) f consumed) t k l m consumed (breaks (during (whole t k l) m) f)
 unfolding replyTo
 broken-says t k l m f consumed c w b =
-    says t k l m (breaks (during (whole t k l) m) f) (endedLink k (l .count)) (clears (l .count)) _ consumed _ noSetup []
+    says t k l m (breaks (during (whole t k l) m) f) (endedLink k (l .count)) (clears (l .count)) _ consumed _ (inArray []) []
     (rw (all-listed l)) refl (all-dropped l) refl
     (drops-all t k l m c w b) refl (clear-clean l)
 
@@ -173,91 +184,137 @@ broken-padded k n f consumed = none-padded
 
 -- ## A submit
 
-append-drops : (l : Pending) (n : ℕ) (u : Urb) → n < Limits.MAX-PENDING → ticketsDropped l (appends n u) ≡ ticketsOf []
-unfolding appends
-append-drops l n u h = rw (lt-ltb n Limits.MAX-PENDING h)
+-- a list with room takes the URB, and nothing is dropped
+module _ (l : Pending) (n : ℕ) (u : Urb) (h : n < Limits.MAX-PENDING) where
+  append-drops : ticketsDropped l (appends n u) ≡ ticketsOf []
+  unfolding appends
+  append-drops = rw (lt-ltb n Limits.MAX-PENDING h)
+
+  append-urb : appends n u .urb ≡ u
+  unfolding appends
+  append-urb = rw (lt-ltb n Limits.MAX-PENDING h)
 
 -- what is accepted has room
-room-left : (h : Header) (devid n accepted : ℕ) → first (submitTests h devid n accepted) ≡ none → (n < Limits.MAX-PENDING) × (accepted < Limits.LAST-TICKET)
-room-left h devid n accepted f =
-    let c = clear (submitTests h devid n accepted) (submitRows h devid n accepted) (submit-match h devid n accepted) f in
-    (lt-of-not-le {n = Limits.MAX-PENDING} {m = n} (λ q. c .1 .1 .0 (inl q)), lt-of-not-le {n = Limits.LAST-TICKET} {m = accepted} (λ q. c .1 .1 .0 (inr q)))
+room-left : (h : Header) (devid : ℕ) (bad : Bool) (n accepted : ℕ) → first (submitTests h devid bad n accepted) ≡ none
+    → (n < Limits.MAX-PENDING) × (accepted < Limits.LAST-TICKET)
+room-left h devid bad n accepted f =
+    let m = submit-match h devid bad n accepted (bad ≡ true) ((λ e. e), λ e. e) in
+    let c = clear (submitTests h devid bad n accepted) (submitRows h devid (bad ≡ true) n accepted) m f .1 .1 .1 .0 in
+    (lt-of-not-le {n = Limits.MAX-PENDING} {m = n} (λ q. c (inl q)), lt-of-not-le {n = Limits.LAST-TICKET} {m = accepted} (λ q. c (inr q)))
 
-module _ (t : Table) (k : Link) (l : Pending) (h : Header) (body consumed time : ℕ) (a : Attached (whole t k l)) (w : Whole l) where
+-- blank places behind the packets aren't in the reply
+refusal-is : (h : Header) (ds : List ℕ) (status : ℕ)
+    → let ks = submitPackets h ds in refusalBytes (inArray ks) (retFor (h .transfer) status 0 0) ≡ refusalFor (h .transfer) ks status
+unfolding submitReply
+refusal-is h ds status =
+    let n = isoCount (h .transfer .packets) in
+    rw (descriptors-in-array (packetsOf n ds) (refusedResults n status), packets-length n ds)
+
+module _ (t : Table) (k : Link) (l : Pending) (h : Header) (body : ℕ) (ds : List ℕ) (consumed time : ℕ) (a : Attached (whole t k l)) (w : Whole l) where
+  abbrev m : Message
+  m = headed h body ds
+
+  abbrev iso : List Packet
+  iso = inArray (submitPackets h ds)
+
   fit : l .count ≤ Limits.MAX-PENDING
   fit = counts-known (k .counts) (l .count) (a .0) .0
 
-  answered-says : (status : ℕ) → let r = answeredPlan k (l .count) h status consumed in
-      Says (replyBytes (r .reply)) r t k l (headed h body) consumed (answer (h .transfer .seqnum) status)
+  answered-says : (status : ℕ) → let r = answeredPlan k (l .count) h iso status consumed in
+      Says (replyBytes (r .iso) (r .reply)) r t k l m consumed (answer (h .transfer .seqnum) status)
   unfolding replyTo
   answered-says status =
       let next = resting Limits.ATTACHED (k .devid) (k .counts) in
-      says t k l (headed h body) (answer (h .transfer .seqnum) status) next (keeps (l .count)) _ consumed _ noSetup _ refl refl refl refl
+      says t k l m (answer (h .transfer .seqnum) status) next (keeps (l .count)) _ consumed _ iso _ refl refl refl (refusal-is h ds status)
       (kept t next l fit ∙ view-attached t (k .devid) (k .counts) l (a .0) ∙ rw (a .1))
       (sym (a .1)) (keep-clean l)
 
   accepted-says : l .count < Limits.MAX-PENDING → k .counts .accepted < Limits.LAST-TICKET
-      → Says [] (acceptedPlan k (l .count) h consumed time) t k l (headed h body) consumed (submit (urbOf (suc (k .counts .accepted)) time h))
+      → Says [] (acceptedPlan k (l .count) h iso consumed time) t k l m consumed (submit (urbOf (suc (k .counts .accepted)) time h ds))
   unfolding replyTo
   accepted-says room b =
       let c = k .counts in
       let next : plus (c .accepted) 1 ≡ suc (c .accepted) = plus-fits (c .accepted) 1 Limits.LAST-TICKET (omega arith) (omega arith) ∙ add-one (c .accepted) in
-      let urb = urbOf (suc (c .accepted)) time h in
+      let urb = urbOf (suc (c .accepted)) time h ds in
       let list = changed l (appends (l .count) urb) in
       let n : list .count ≡ l .count + 1 = append-count l urb room in
       let counts = oneAccepted c in
       let even = even-counts counts (list .count) (omega arith) (omega (arith, counts-known c (l .count) (a .0) .1)) in
+      let set = append-urb l (l .count) urb room in
       rw next
-      (says t k l (headed h body) (submit urb) (resting Limits.ATTACHED (k .devid) counts) (appends (l .count) urb) _ consumed _ (h .setup) []
-      refl refl (append-drops l (l .count) urb room) refl
+      (says t k l m (submit urb) (resting Limits.ATTACHED (k .devid) counts) (appends (l .count) urb) _ consumed _ (inArray []) []
+      (ap (λ (u : Urb). eventOf (Submit (urb .ticket) time (h .transfer)) (u .setup) (u .iso) (ticketsDropped l (appends (l .count) urb))) set)
+      set
+      (append-drops l (l .count) urb room) refl
       (view-attached t (k .devid) counts list even ∙ rw (append-view l urb w room, a .1))
       (sym (a .1))
       (λ y. (changed-whole l (appends (l .count) urb) w, append-sound l urb w (y .1))))
 
-pub submitted-says : (t : Table) (k : Link) (l : Pending) (h : Header) (body consumed time : ℕ) → Attached (whole t k l) → Whole l
-    → k .counts .accepted ≤ Limits.LAST-TICKET → let r = submittedPlan k (l .count) h consumed time in
-    Says (replyBytes (r .reply)) r t k l (headed h body) consumed (submitted time (during (whole t k l) (headed h body)) h)
+pub submitted-says : (t : Table) (k : Link) (l : Pending) (h : Header) (body : ℕ) (ds : List ℕ) (consumed time : ℕ) → Attached (whole t k l) → Whole l
+    → k .counts .accepted ≤ Limits.LAST-TICKET → let r = submittedPlan k (l .count) h ds consumed time in
+    Says (replyBytes (r .iso) (r .reply)) r t k l (headed h body ds) consumed (submitted time (during (whole t k l) (headed h body ds)) h ds)
 unfolding submittedPlan submitted decide
-submitted-says t k l h body consumed time a w _ =
+submitted-says t k l h body ds consumed time a w _ =
     rw (view-length l w (counts-known (k .counts) (l .count) (a .0) .0)) (at (first tests) refl)
   where
+    iso : List Packet
+    iso = inArray (submitPackets h ds)
+
+    bad : Bool
+    bad = badPackets (h .transfer) (submitPackets h ds)
+
     tests : List (Test ℕ)
-    tests = submitTests h (k .devid) (l .count) (k .counts .accepted)
+    tests = submitTests h (k .devid) bad (l .count) (k .counts .accepted)
 
     at : (o : Option ℕ) → first tests ≡ o
-        → let r = decide o (λ status. answeredPlan k (l .count) h status consumed) (acceptedPlan k (l .count) h consumed time) in
-        Says (replyBytes (r .reply)) r t k l (headed h body) consumed
-        (decide o (answer (h .transfer .seqnum)) (submit (urbOf (suc (k .counts .accepted)) time h)))
-    at none f = let room = room-left h (k .devid) (l .count) (k .counts .accepted) f in accepted-says t k l h body consumed time a w (room .0) (room .1)
-    at (some status) f = answered-says t k l h body consumed time a w status
+        → let r = decide o (λ status. answeredPlan k (l .count) h iso status consumed) (acceptedPlan k (l .count) h iso consumed time) in
+        Says (replyBytes (r .iso) (r .reply)) r t k l (headed h body ds) consumed
+        (decide o (answer (h .transfer .seqnum)) (submit (urbOf (suc (k .counts .accepted)) time h ds)))
+    at none f =
+        let room = room-left h (k .devid) bad (l .count) (k .counts .accepted) f in
+        accepted-says t k l h body ds consumed time a w (room .0) (room .1)
+    at (some status) f = answered-says t k l h body ds consumed time a w status
 
-pub submitted-padded : (k : Link) (n : ℕ) (h : Header) (consumed time : ℕ) → Padded (submittedPlan k n h consumed time .link .progress)
+-- by the packets alone
+pub submitted-alike : (k : Link) (n : ℕ) (h : Header) (ds es : List ℕ) (consumed time : ℕ) → submitPackets h ds ≡ submitPackets h es
+    → submittedPlan k n h ds consumed time ≡ submittedPlan k n h es consumed time
 unfolding submittedPlan
-submitted-padded k n h consumed time =
-    by-first (λ (r : Plan). Padded (r .link .progress)) (first (submitTests h (k .devid) n (k .counts .accepted))) (λ _ _. none-padded) (λ _. none-padded)
+submitted-alike k n h ds es consumed time e = rw e
+
+pub submitted-padded : (k : Link) (n : ℕ) (h : Header) (ds : List ℕ) (consumed time : ℕ)
+    → Padded (submittedPlan k n h ds consumed time .link .progress)
+unfolding submittedPlan
+submitted-padded k n h ds consumed time =
+    let bad = badPackets (h .transfer) (submitPackets h ds) in
+    by-first (λ (r : Plan). Padded (r .link .progress)) (first (submitTests h (k .devid) bad n (k .counts .accepted))) (λ _ _. none-padded) (λ _. none-padded)
 
 -- ## An unlink
 
 pub remove-clean : (l : Pending) (i : ℕ) → Clean l → Clean (changed l (removes (l .count) i))
 remove-clean l i h = (changed-whole l (removes (l .count) i) (h .0), remove-sound l i (h .0) (h .1))
 
-remove-drops : (l : Pending) (n i : ℕ) → i < n → n ≤ Limits.MAX-PENDING → ticketsDropped l (removes n i) ≡ ticketsOf []
-unfolding removes
-remove-drops l n i h m = rw (lt-ltb i n h, le-leb n Limits.MAX-PENDING m)
+module _ (l : Pending) (n i : ℕ) (h : i < n) (m : n ≤ Limits.MAX-PENDING) where
+  remove-drops : ticketsDropped l (removes n i) ≡ ticketsOf []
+  unfolding removes
+  remove-drops = rw (lt-ltb i n h, le-leb n Limits.MAX-PENDING m)
+
+  remove-urb : removes n i .urb ≡ blank
+  unfolding removes
+  remove-urb = rw (lt-ltb i n h, le-leb n Limits.MAX-PENDING m)
 
 module _ (t : Table) (k : Link) (l : Pending) (h : Header) (consumed : ℕ) (a : Attached (whole t k l)) (w : Whole l) where
   missed-says : let r = missedPlan k (l .count) h consumed in
-      Says (replyBytes (r .reply)) r t k l (headed h 0) consumed (unlink (h .transfer .seqnum) 0 none)
+      Says (replyBytes (r .iso) (r .reply)) r t k l (headed h 0 []) consumed (unlink (h .transfer .seqnum) 0 none)
   unfolding replyTo
   missed-says =
       let next = resting Limits.ATTACHED (k .devid) (k .counts) in
-      says t k l (headed h 0) (unlink (h .transfer .seqnum) 0 none) next (keeps (l .count)) _ consumed _ noSetup _ refl refl refl refl
+      says t k l (headed h 0 []) (unlink (h .transfer .seqnum) 0 none) next (keeps (l .count)) _ consumed _ (inArray []) _ refl refl refl refl
       (kept t next l (counts-known (k .counts) (l .count) (a .0) .0) ∙ view-attached t (k .devid) (k .counts) l (a .0) ∙ rw (a .1))
       (sym (a .1)) (keep-clean l)
 
   removed-says : (look : Look) → placeBy seqnumOf (unlinkSeqnum h) (listOf l) ≡ At (look .place) → look .place < length (listOf l)
       → k .counts .accepted ≤ Limits.LAST-TICKET → let r = removedPlan k (l .count) h look consumed in
-      Says (replyBytes (r .reply)) r t k l (headed h 0) consumed (unlink (h .transfer .seqnum) (minus Codes.ECONNRESET) (some (look .ticket)))
+      Says (replyBytes (r .iso) (r .reply)) r t k l (headed h 0 []) consumed (unlink (h .transfer .seqnum) (minus Codes.ECONNRESET) (some (look .ticket)))
   unfolding replyTo
   removed-says look e inside b =
       let c = k .counts in
@@ -269,9 +326,9 @@ module _ (t : Table) (k : Link) (l : Pending) (h : Header) (consumed : ℕ) (a :
       let counts = State.ended unlinked 1 c in
       let even = even-counts counts (list .count) (omega (arith, c′ .0)) (omega (arith, c′ .1)) in
       rw next
-      (says t k l (headed h 0) (unlink (h .transfer .seqnum) (minus Codes.ECONNRESET) (some (look .ticket)))
-      (resting Limits.ATTACHED (k .devid) counts) (removes (l .count) (look .place)) _ consumed _ noSetup _
-      refl refl (remove-drops l (l .count) (look .place) i (c′ .0)) refl
+      (says t k l (headed h 0 []) (unlink (h .transfer .seqnum) (minus Codes.ECONNRESET) (some (look .ticket)))
+      (resting Limits.ATTACHED (k .devid) counts) (removes (l .count) (look .place)) _ consumed _ (inArray []) _
+      refl (remove-urb l (l .count) (look .place) i (c′ .0)) (remove-drops l (l .count) (look .place) i (c′ .0)) refl
       (view-attached t (k .devid) counts list even ∙ rw (remove-view l (look .place) w (placeBy seqnumOf (unlinkSeqnum h) (listOf l)) e i (c′ .0), a .1))
       (sym (a .1))
       (remove-clean l (look .place)))
@@ -279,7 +336,7 @@ module _ (t : Table) (k : Link) (l : Pending) (h : Header) (consumed : ℕ) (a :
 pub unlinked-says : (t : Table) (k : Link) (l : Pending) (h : Header) (consumed : ℕ) → Attached (whole t k l) → Whole l
     → k .counts .accepted ≤ Limits.LAST-TICKET → let look = lookBy seqnumOf (unlinkSeqnum h) (listOf l) in
     let r = unlinkedPlan k (l .count) h look consumed in
-    Says (replyBytes (r .reply)) r t k l (headed h 0) consumed (unlinks (h .transfer .seqnum) (findBy seqnumOf (unlinkSeqnum h) (listOf l)))
+    Says (replyBytes (r .iso) (r .reply)) r t k l (headed h 0 []) consumed (unlinks (h .transfer .seqnum) (findBy seqnumOf (unlinkSeqnum h) (listOf l)))
 unlinked-says t k l h consumed a w b = at (findBy seqnumOf q (listOf l)) refl
   where
     q : ℕ
@@ -289,7 +346,7 @@ unlinked-says t k l h consumed a w b = at (findBy seqnumOf q (listOf l)) refl
     look = lookBy seqnumOf q (listOf l)
 
     at : (o : Option Urb) → findBy seqnumOf q (listOf l) ≡ o → let r = unlinkedPlan k (l .count) h look consumed in
-        Says (replyBytes (r .reply)) r t k l (headed h 0) consumed (unlinks (h .transfer .seqnum) o)
+        Says (replyBytes (r .iso) (r .reply)) r t k l (headed h 0 []) consumed (unlinks (h .transfer .seqnum) o)
     at none e = rw (look-none seqnumOf q (listOf l) e) (missed-says t k l h consumed a w)
     at (some u) e =
         let f = look-some seqnumOf q (listOf l) u e in
@@ -314,7 +371,7 @@ module _ (t : Table) (k : Link) (l : Pending) (m : Message) (consumed : ℕ) (c 
   pub list-says : let r = listPlan k (l .count) consumed in Says (requestBytes t (r .reply)) (r .plan) t k l m consumed list
   unfolding replyTo
   list-says =
-      says t k l m list (resting Limits.CLOSED (k .devid) (k .counts)) (keeps (l .count)) _ consumed _ noSetup _ refl refl refl refl
+      says t k l m list (resting Limits.CLOSED (k .devid) (k .counts)) (keeps (l .count)) _ consumed _ (inArray []) _ refl refl refl refl
       (rest-view Limits.CLOSED (k .devid) ∙ view-shut t (k .devid) (k .counts) l)
       refl (keep-clean l)
 
@@ -322,7 +379,7 @@ module _ (t : Table) (k : Link) (l : Pending) (m : Message) (consumed : ℕ) (c 
       Says (requestBytes t (r .reply)) (r .plan) t k l m consumed (import 1)
   unfolding replyTo pick
   unknown-says f =
-      says t k l m (import 1) (resting Limits.CLOSED (k .devid) (k .counts)) (keeps (l .count)) _ consumed _ noSetup _ refl refl refl (rw f)
+      says t k l m (import 1) (resting Limits.CLOSED (k .devid) (k .counts)) (keeps (l .count)) _ consumed _ (inArray []) _ refl refl refl (rw f)
       (rest-view Limits.CLOSED (k .devid) ∙ view-shut t (k .devid) (k .counts) l)
       refl (keep-clean l)
 
@@ -342,7 +399,7 @@ pub import-says : (t : Table) (k : Link) (l : Pending) (m : Message) (i consumed
 unfolding replyTo pick
 import-says t k l m i consumed c f w =
     let d = found-device t (during (whole t k l) m) i refl w f in
-    says t k l m (import 0) (resting Limits.ATTACHED (devidIn t i) (k .counts)) (keeps (l .count)) _ consumed _ noSetup _ refl refl refl (rw (f, d))
+    says t k l m (import 0) (resting Limits.ATTACHED (devidIn t i) (k .counts)) (keeps (l .count)) _ consumed _ (inArray []) _ refl refl refl (rw (f, d))
     (rest-view t k l m consumed c Limits.ATTACHED (devidIn t i) ∙ view-attached t (devidIn t i) (k .counts) l c ∙ rw (f, d))
     refl (keep-clean l)
 

@@ -3,9 +3,10 @@ use Prim.Native.Nat.{ℕ}
 use mathlib.Core.Bool.{Bool, true, false}
 use mathlib.Core.List.{List, []}
 use mathlib.Core.Option.{Option, none, some}
-use lib.ListN.{length, take, replicate}
-use Rattle.wire.specs.Codes
-use Rattle.pending.specs.Pending.{zeroPadded}
+use lib.ListN.{length, take}
+use Rattle.packets.specs.declared.packet.Packet.{Packet}
+use Rattle.pending.specs.Pending.{blank, zeroPadded}
+use Rattle.pending.specs.declared.urb.Urb.{Urb}
 use Rattle.pending.specs.declared.list.Tickets.{Tickets}
 use Rattle.limits.specs.Limits
 use Rattle.model.specs.Answers.{Outcome, refused, done, Returned, Event, hungry, list, import, submit, answer, unlink, break}
@@ -27,20 +28,20 @@ abbrev pub openAnswer : Bool → Opening
 openAnswer true = Ready
 openAnswer false = OpeningRefused Limits.BAD-TABLE
 
--- The event that each case stands for; the setup bytes and the dropped tickets stand beside it.
+-- The event that each case stands for; the setup bytes, the packets and the dropped tickets stand beside it.
 abbrev pub removedOf : Removed → Option ℕ
 removedOf (Ticket t) = some t
 removedOf Nothing = none
 
-abbrev pub eventOf : Case → List ℕ → Tickets → Outcome Event
-eventOf Hungry setup ts = done hungry
-eventOf Listed setup ts = done list
-eventOf (Import st) setup ts = done (import st)
-eventOf (Submit t a u) setup ts = done (submit (record { ticket = t; transfer = u; setup = setup; arrival = a }))
-eventOf (Answered q st) setup ts = done (answer q st)
-eventOf (Unlink q st r) setup ts = done (unlink q st (removedOf r))
-eventOf (Break f) setup ts = done (break f (take (ts .count) (ts .tickets)))
-eventOf (Refused n) setup ts = refused n
+abbrev pub eventOf : Case → (setup : List ℕ) → List Packet → Tickets → Outcome Event
+eventOf Hungry setup iso ts = done hungry
+eventOf Listed setup iso ts = done list
+eventOf (Import st) setup iso ts = done (import st)
+eventOf (Submit t a u) setup iso ts = done (submit (record { ticket = t; transfer = u; setup = setup; arrival = a; iso = iso }))
+eventOf (Answered q st) setup iso ts = done (answer q st)
+eventOf (Unlink q st r) setup iso ts = done (unlink q st (removedOf r))
+eventOf (Break f) setup iso ts = done (break f (take (ts .count) (ts .tickets)))
+eventOf (Refused n) setup iso ts = refused n
 
 abbrev pub completionOf : Completion → Outcome Returned
 completionOf (Return wire status) = done (record { wire = wire; status = status })
@@ -54,19 +55,16 @@ abbrev pub inquiryOf : Inquiry → Tickets → Outcome (List ℕ)
 inquiryOf StaleListed ts = done (take (ts .count) (ts .tickets))
 inquiryOf (InquiryRefused n) ts = refused n
 
--- What stands beside an answer: zeros where it has no use for them.
-abbrev pub noSetup : List ℕ
-noSetup = replicate Codes.SETUP-LEN 0
-
-abbrev pub setupBeside : Outcome Event → List ℕ
-setupBeside (done (submit u)) = u .setup
-setupBeside (done hungry) = noSetup
-setupBeside (done list) = noSetup
-setupBeside (done (import st)) = noSetup
-setupBeside (done (answer q st)) = noSetup
-setupBeside (done (unlink q st t)) = noSetup
-setupBeside (done (break f ts)) = noSetup
-setupBeside (refused n) = noSetup
+-- What stands beside an answer: an accepted submit's record has it; a blank one for any other event.
+abbrev pub urbBeside : Outcome Event → Urb
+urbBeside (done (submit u)) = u
+urbBeside (done hungry) = blank
+urbBeside (done list) = blank
+urbBeside (done (import st)) = blank
+urbBeside (done (answer q st)) = blank
+urbBeside (done (unlink q st t)) = blank
+urbBeside (done (break f ts)) = blank
+urbBeside (refused n) = blank
 
 abbrev pub ticketsOf : List ℕ → Tickets
 ticketsOf ts = record { tickets = zeroPadded ts; count = length ts }

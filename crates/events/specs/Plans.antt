@@ -7,12 +7,17 @@ use lib.Seq.{sets}
 use Rattle.wire.specs.Codes
 use Rattle.wire.specs.Status.{minus}
 use Rattle.ground.specs.Writing.{over}
-use Rattle.messages.specs.Messages.{retSubmit, retUnlink}
+use Rattle.messages.specs.Messages.{isoCount, retUnlink}
 use Rattle.messages.specs.declared.message.Header.{Header}
+use Rattle.messages.specs.declared.reply.RetSubmit.{RetSubmit}
 use Rattle.exports.specs.declared.device.Table.{Table}
 use Rattle.lookup.specs.Lookup.{deviceIn}
 use Rattle.importing.specs.Imports.{importReply, importRefusal}
 use Rattle.listing.specs.Lists.{listReply}
+use Rattle.packets.specs.Packets.{inArray}
+use Rattle.packets.specs.declared.packet.Packet.{Packet}
+use Rattle.descriptors.specs.Descriptors.{refusedResults}
+use Rattle.replies.specs.Replies.{submitReply}
 use Rattle.pending.specs.Changes.{changed, keeps, appends, removes, clears}
 use Rattle.pending.specs.Pending.{listOf, listing}
 use Rattle.pending.specs.declared.change.Change.{Change}
@@ -24,15 +29,15 @@ use Rattle.limits.specs.Limits
 use Rattle.ground.specs.Tests.{first, decide}
 use Rattle.verdicts.specs.Verdicts.{submitTests}
 use Rattle.verdicts.specs.declared.verdict.Fault.{Fault}
-use Rattle.model.specs.State.{Sess}
+use Rattle.model.specs.State.{Sess, submitPackets}
 use Rattle.model.specs.Answers.{Outcome, Event}
-use Rattle.model.specs.Judging.{urbOf}
-use Rattle.model.specs.Acts.{Buffers}
+use Rattle.model.specs.Judging.{recordOf, badPackets}
+use Rattle.model.specs.Acts.{retFor, Buffers}
 use Rattle.model.specs.Cut.{lent}
 use Rattle.links.specs.Links.{Parts, whole, viewOfParts, linkWithProgress, resting, plus, endedLink}
 use Rattle.links.specs.declared.link.Link.{Link}
 use Rattle.links.specs.declared.link.Progress.{Progress}
-use Rattle.events.specs.Answers.{eventOf, noSetup}
+use Rattle.events.specs.Answers.{eventOf}
 use Rattle.events.specs.declared.answer.Event.{Event as Case}
 use Rattle.events.specs.declared.answer.Event.the-variants.{Hungry, List as Listed, Import, Submit, Answer, Unlink, Break, Refused}
 use Rattle.events.specs.declared.answer.Removed.the-variants.{Ticket, Nothing}
@@ -45,41 +50,41 @@ use Rattle.events.specs.declared.plan.RequestReply.the-variants.{Silent 
 
 -- ## The plan of each event
 
--- A plan that copies nothing, with nothing beside its event.
+-- A plan that copies nothing, whose reply has no packets.
 abbrev pub plain : Link → Change → Case → ℕ → Reply → Plan
 plain k c e consumed reply =
-    record { link = k; change = c; event = e; consumed = consumed; reply = reply; body = 0; from = 0; to = 0; setup = noSetup }
+    record { link = k; change = c; event = e; consumed = consumed; reply = reply; iso = inArray []; body = 0; from = 0; to = 0 }
 
--- The same plan with setup bytes, with data of the piece.
-abbrev pub withSetup : List ℕ → Plan → Plan
-withSetup setup r =
+-- The same plan with packets in its reply, with bytes of the piece for the work buffer.
+abbrev pub withIso : List Packet → Plan → Plan
+withIso iso r =
     record {
       link = r .link;
       change = r .change;
       event = r .event;
       consumed = r .consumed;
       reply = r .reply;
+      iso = iso;
       body = r .body;
       from = r .from;
       to = r .to;
-      setup = setup;
     }
 
-abbrev pub withData : (body from to : ℕ) → Plan → Plan
-withData body from to r =
+abbrev pub withBody : (body from to : ℕ) → Plan → Plan
+withBody body from to r =
     record {
       link = r .link;
       change = r .change;
       event = r .event;
       consumed = r .consumed;
       reply = r .reply;
+      iso = r .iso;
       body = body;
       from = from;
       to = to;
-      setup = r .setup;
     }
 
--- k: the link before; n: how many are pending; h: the header of the message.
+-- k: the link before; n: how many are pending; h: the header of the message; iso: its packets, as the array has them.
 abbrev pub refusedPlan : Link → ℕ → ℕ → Plan
 refusedPlan k n number = plain k (keeps n) (Refused number) 0 Silent
 
@@ -89,23 +94,26 @@ hungryPlan k n p consumed = plain (linkWithProgress p k) (keeps n) Hungry consum
 abbrev pub brokenPlan : Link → ℕ → Fault → ℕ → Plan
 brokenPlan k n f consumed = plain (endedLink k n) (clears n) (Break f) consumed Silent
 
-abbrev pub answeredPlan : Link → ℕ → Header → ℕ → ℕ → Plan
-answeredPlan k n h status consumed =
+abbrev pub answeredPlan : Link → ℕ → Header → List Packet → (status consumed : ℕ) → Plan
+answeredPlan k n h iso status consumed =
     let u = h .transfer in
-    plain (resting Limits.ATTACHED (k .devid) (k .counts)) (keeps n) (Answer (u .seqnum) status) consumed
-    (RetSubmits (record { seqnum = u .seqnum; status = status; actual = 0; start = u .start; packets = u .packets }))
+    withIso iso
+    (plain (resting Limits.ATTACHED (k .devid) (k .counts)) (keeps n) (Answer (u .seqnum) status) consumed (RetSubmits (retFor u status 0 0)))
 
-abbrev pub acceptedPlan : Link → ℕ → Header → (consumed time : ℕ) → Plan
-acceptedPlan k n h consumed time =
+abbrev pub acceptedPlan : Link → ℕ → Header → List Packet → (consumed time : ℕ) → Plan
+acceptedPlan k n h iso consumed time =
     let c = k .counts in
     let ticket = plus (c .accepted) 1 in
     let counts : Counts = record { accepted = ticket; returned = c .returned; unlinked = c .unlinked; dropped = c .dropped } in
-    withSetup (h .setup)
-    (plain (resting Limits.ATTACHED (k .devid) counts) (appends n (urbOf ticket time h)) (Submit ticket time (h .transfer)) consumed Silent)
+    plain (resting Limits.ATTACHED (k .devid) counts) (appends n (recordOf ticket time h iso)) (Submit ticket time (h .transfer)) consumed Silent
 
-unfoldable pub submittedPlan : Link → ℕ → Header → (consumed time : ℕ) → Plan
-submittedPlan k n h consumed time =
-    decide (first (submitTests h (k .devid) n (k .counts .accepted))) (λ status. answeredPlan k n h status consumed) (acceptedPlan k n h consumed time)
+-- ds: the bytes of its descriptors.
+unfoldable pub submittedPlan : Link → ℕ → Header → (ds : List ℕ) → (consumed time : ℕ) → Plan
+submittedPlan k n h ds consumed time =
+    let ks = submitPackets h ds in
+    decide (first (submitTests h (k .devid) (badPackets (h .transfer) ks) n (k .counts .accepted)))
+    (λ status. answeredPlan k n h (inArray ks) status consumed)
+    (acceptedPlan k n h (inArray ks) consumed time)
 
 abbrev pub unlinkReply : Header → ℕ → Reply
 unlinkReply h status = RetUnlinks (record { seqnum = h .transfer .seqnum; status = status })
@@ -149,17 +157,22 @@ importPlan k n place devid consumed = record { plan = restPlan k n Limits.ATTACH
 pub record Result : Type 0 where
   pub event : Outcome Event
   pub setup : List ℕ
+  pub iso : List Packet
   pub dropped : Tickets
   pub consumed : ℕ
   pub length : ℕ
   pub buffers : Buffers
   pub next : Sess
 
+-- The reply to a submit that is refused.
+abbrev pub refusalBytes : List Packet → RetSubmit → List ℕ
+refusalBytes iso r = submitReply r iso (refusedResults (isoCount (r .packets)) (r .status))
+
 -- The bytes of a reply to a message, and to a request.
-abbrev pub replyBytes : Reply → List ℕ
-replyBytes Silent = []
-replyBytes (RetSubmits r) = retSubmit r
-replyBytes (RetUnlinks r) = retUnlink r
+abbrev pub replyBytes : List Packet → Reply → List ℕ
+replyBytes iso Silent = []
+replyBytes iso (RetSubmits r) = refusalBytes iso r
+replyBytes iso (RetUnlinks r) = retUnlink r
 
 abbrev pub requestBytes : Table → RequestReply → List ℕ
 requestBytes t NoReply = []
@@ -182,8 +195,9 @@ dataOf r piece = take (r .to - r .from) (drop (r .from) piece)
 abbrev pub carriedWith : List ℕ → Table → Pending → Plan → List ℕ → Buffers → Result
 carriedWith bytes t l r piece b =
     record {
-      event = eventOf (r .event) (r .setup) (ticketsDropped l (r .change));
-      setup = r .setup;
+      event = eventOf (r .event) (r .change .urb .setup) (r .change .urb .iso) (ticketsDropped l (r .change));
+      setup = r .change .urb .setup;
+      iso = r .change .urb .iso;
       dropped = ticketsDropped l (r .change);
       consumed = r .consumed;
       length = length bytes;

@@ -1,6 +1,8 @@
 // What the acts of a session answer. Numbers go inside an event, arrays beside it. What each case stands for is `eventOf` and its
 // like in specs/Answers.antt.
+use limits::MAX_PACKETS;
 use messages::message::Transfer;
+use packets::packet::Packet;
 use verdicts::verdict::Fault;
 use wire::codes::SETUP_LEN;
 
@@ -16,7 +18,7 @@ pub enum Removed {
 }
 
 // Hungry is the rules' word for a feed that ends within a message. An import has its status; an accepted submit its ticket, its arrival and
-// its transfer (the setup bytes stand beside); an answer to a refused submit its seqnum and status; an unlink its own seqnum, its
+// its transfer (the setup bytes and the packets stand beside); an answer to a refused submit its seqnum and status; an unlink its own seqnum, its
 // status and the ticket removed. A break is the rules' word for a fault in the stream, which ends the session. A refusal has its
 // number.
 pub enum Event {
@@ -30,12 +32,13 @@ pub enum Event {
     Refused(u32),
 }
 
-// A feed's answer: the event, the bytes consumed of the piece, the length of the reply; an accepted submit's setup bytes.
+// A feed's answer: the event, the bytes consumed of the piece, the length of the reply; an accepted submit's setup bytes and packets.
 pub struct Answer {
     pub event: Event,
     pub consumed: usize,
     pub length: usize,
     pub setup: [u8; SETUP_LEN],
+    pub iso: [Packet; MAX_PACKETS],
 }
 
 // A completion is accepted, with the length of the reply on the wire and the status sent, or refused.

@@ -6,14 +6,21 @@ use crate::plan::Plan;
 use crate::plan::Reply;
 use crate::plan::plain_plan;
 use limits::ATTACHED;
+use limits::DESCRIPTORS_LEN;
+use limits::MAX_PACKETS;
 use links::link::Link;
 use links::link::Progress;
 use links::link::count_plus;
 use links::link::ended_link;
 use links::link::resting_link;
 use messages::message::Header;
+use messages::message::Transfer;
+use messages::message::iso_count;
 use messages::reply::RetSubmit;
 use messages::reply::RetUnlink;
+use packets::judging::packets_good;
+use packets::packet::Packet;
+use packets::packet::read_packets;
 use pending::change::Change;
 use pending::counts::Counts;
 use pending::look::Look;
@@ -23,7 +30,10 @@ use verdicts::verdict::Fault;
 use verdicts::verdict::submit_status;
 use wire::status::MINUS_ECONNRESET;
 ghost use mathlib.Core.Path.{_≡_};
-ghost use Rattle.model.specs.Judging.{urbOf};
+ghost use Prim.Native.Nat.{_≤_};
+ghost use lib.ListN.{take};
+ghost use Rattle.limits.specs.Limits.{MAX-PACKETS};
+ghost use Rattle.model.specs.Judging.{recordOf, badPackets};
 ghost use Rattle.events.specs.Plans.{hungryPlan, brokenPlan, answeredPlan, acceptedPlan, submittedPlan, unlinkReply, removedPlan, missedPlan};
 ghost use Rattle.events.specs.Plans.{unlinkedPlan};
 
@@ -45,9 +55,16 @@ pub fn plan_broken(old: Link, pending: usize, fault: Fault, consumed: usize) -> 
     plain_plan(link, change, Event::Break(fault), consumed, Reply::Silent)
 }
 
-// A submit is answered with a status, and the session is as it was, with no message in progress.
-fn plan_answered(old: Link, pending: usize, h: Header, status: u32, consumed: usize) -> Plan
-    ensures { λ r. ⌜ r ≡ answeredPlan old pending h status consumed ⌝ }
+// A submit is answered with a status, and the session is as it was, with no message in progress. The reply sends its packets back.
+fn plan_answered(
+    old: Link,
+    pending: usize,
+    h: Header,
+    iso: [Packet; MAX_PACKETS],
+    status: u32,
+    consumed: usize,
+) -> Plan
+    ensures { λ r. ⌜ r ≡ answeredPlan old pending h iso status consumed ⌝ }
 {
     let u = h.transfer;
     let ret = RetSubmit {
@@ -56,22 +73,24 @@ fn plan_answered(old: Link, pending: usize, h: Header, status: u32, consumed: us
         actual: 0,
         start: u.start,
         packets: u.packets,
+        errors: 0,
     };
     let counts = old.counts;
     let link = resting_link(ATTACHED, old.devid, counts);
     let change = Change::keep(pending);
-    plain_plan(
+    let plan = plain_plan(
         link,
         change,
         Event::Answer(u.seqnum, status),
         consumed,
         Reply::Submit(ret),
-    )
+    );
+    Plan { iso: iso, ..plan }
 }
 
 // The record of a submit under a ticket; a time is given with the feed that takes its last byte.
-fn urb_of(ticket: u64, time: u32, h: Header) -> Urb
-    ensures { λ r. ⌜ r ≡ urbOf ticket time h ⌝ }
+fn urb_of(ticket: u64, time: u32, h: Header, iso: [Packet; MAX_PACKETS]) -> Urb
+    ensures { λ r. ⌜ r ≡ recordOf ticket time h iso ⌝ }
 {
     let transfer = h.transfer;
     let setup = h.setup;
@@ -80,12 +99,20 @@ fn urb_of(ticket: u64, time: u32, h: Header) -> Urb
         transfer: transfer,
         setup: setup,
         arrival: time,
+        iso: iso,
     }
 }
 
 // A submit is accepted, with the next ticket.
-fn plan_accepted(old: Link, pending: usize, h: Header, consumed: usize, time: u32) -> Plan
-    ensures { λ r. ⌜ r ≡ acceptedPlan old pending h consumed time ⌝ }
+fn plan_accepted(
+    old: Link,
+    pending: usize,
+    h: Header,
+    iso: [Packet; MAX_PACKETS],
+    consumed: usize,
+    time: u32,
+) -> Plan
+    ensures { λ r. ⌜ r ≡ acceptedPlan old pending h iso consumed time ⌝ }
 {
     let c = old.counts;
     let ticket = count_plus(c.accepted, 1);
@@ -94,31 +121,48 @@ fn plan_accepted(old: Link, pending: usize, h: Header, consumed: usize, time: u3
         ..c
     };
     let link = resting_link(ATTACHED, old.devid, counts);
-    let urb = urb_of(ticket, time, h);
+    let urb = urb_of(ticket, time, h, iso);
     let change = Change::append(pending, urb);
     let transfer = urb.transfer;
-    let plan = plain_plan(
+    plain_plan(
         link,
         change,
         Event::Submit(urb.ticket, urb.arrival, transfer),
         consumed,
         Reply::Silent,
-    );
-    let setup = urb.setup;
-    Plan {
-        setup: setup,
-        ..plan
-    }
+    )
 }
 
-// A submit is judged: its last byte is in.
-pub fn plan_submitted(old: Link, pending: usize, h: Header, consumed: usize, time: u32) -> Plan
-    ensures { λ r. ⌜ r ≡ submittedPlan old pending h consumed time ⌝ }
+// A submit that has packets is judged by them.
+fn bad_packets(u: Transfer, iso: [Packet; MAX_PACKETS], count: usize) -> bool
+    requires { ⌜ count ≤ MAX-PACKETS ⌝ }
+    ensures { λ r. ⌜ r ≡ badPackets u (take count iso) ⌝ }
 {
-    let verdict = submit_status(h, old.devid, pending, old.counts.accepted);
+    if count == 0 {
+        return false;
+    }
+    !packets_good(u.direction, u.length, iso, count)
+}
+
+// A submit is judged: its last byte is in. The descriptors are the session's own copy.
+pub fn plan_submitted(
+    old: Link,
+    pending: usize,
+    h: Header,
+    descriptors: [u8; DESCRIPTORS_LEN],
+    consumed: usize,
+    time: u32,
+) -> Plan
+    ensures { λ r. ⌜ r ≡ submittedPlan old pending h descriptors consumed time ⌝ }
+{
+    let u = h.transfer;
+    let count = iso_count(u.packets);
+    let iso = read_packets(descriptors, count);
+    let bad = bad_packets(u, iso, count);
+    let verdict = submit_status(h, old.devid, bad, pending, old.counts.accepted);
     match verdict {
-        Acceptance::Answered(status) => plan_answered(old, pending, h, status, consumed),
-        Acceptance::Accepted => plan_accepted(old, pending, h, consumed, time),
+        Acceptance::Answered(status) => plan_answered(old, pending, h, iso, status, consumed),
+        Acceptance::Accepted => plan_accepted(old, pending, h, iso, consumed, time),
     }
 }
 

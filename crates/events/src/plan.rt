@@ -1,10 +1,12 @@
 // A plan: what a feed will do, decided by value before anything is written.
 use crate::answer::Event;
+use limits::MAX_PACKETS;
 use links::link::Link;
 use messages::reply::RetSubmit;
 use messages::reply::RetUnlink;
+use packets::packet::Packet;
+use packets::packet::no_packets;
 use pending::change::Change;
-use wire::codes::SETUP_LEN;
 ghost use mathlib.Core.Path.{_≡_};
 ghost use Rattle.events.specs.Plans.{plain, refusedPlan};
 
@@ -15,18 +17,19 @@ pub enum Reply {
     Unlink(RetUnlink),
 }
 
-// The next link, the change of the pending list, the event and the bytes consumed, the reply; the bytes of the piece from `from`
-// up to `to` go to place `body` of the work buffer; the setup bytes stand beside the event.
+// The next link, the change of the pending list, the event and the bytes consumed, the reply and the packets that it sends back; the
+// bytes of the piece from `from` up to `to` go to place `body` of the work buffer. What stands beside the event, setup bytes and packets, is
+// that of the URB that the change sets.
 pub struct Plan {
     pub link: Link,
     pub change: Change,
     pub event: Event,
     pub consumed: usize,
     pub reply: Reply,
+    pub iso: [Packet; MAX_PACKETS],
     pub body: usize,
     pub from: usize,
     pub to: usize,
-    pub setup: [u8; SETUP_LEN],
 }
 
 // The reply to a request: none; the table's list; the import of the device at a place of the table, or of none.
@@ -43,7 +46,7 @@ pub struct RequestPlan {
     pub reply: RequestReply,
 }
 
-// A plan that copies nothing, with nothing beside its event.
+// A plan that copies nothing, whose reply has no packets.
 pub(crate) fn plain_plan(
     link: Link,
     change: Change,
@@ -59,10 +62,10 @@ pub(crate) fn plain_plan(
         event: event,
         consumed: consumed,
         reply: reply,
+        iso: no_packets(),
         body: 0,
         from: 0,
         to: 0,
-        setup: [0u8; SETUP_LEN],
     }
 }
 

@@ -10,13 +10,14 @@ use Rattle.ground.specs.Lists.{joined, padded}
 use Rattle.wire.specs.Codes.{BUSID-LEN}
 use Rattle.exports.specs.declared.device.Table.{Table}
 use Rattle.tape.specs.Table.{tapeDevice, tapeTable}
+use Rattle.packets.specs.Packets.{inArray}
 use Rattle.pending.specs.declared.counts.Numbers.{Numbers}
 use Rattle.pending.specs.declared.urb.Urb.{Urb}
 use Rattle.limits.specs.Limits
 use Rattle.verdicts.specs.Verdicts.{fault}
 use Rattle.model.specs.State.{closed, numbersOf}
 use Rattle.model.specs.Answers.{Outcome, done, Event, list, import, submit, answer, unlink, break}
-use Rattle.model.specs.Acts.{Buffers, feedOf}
+use Rattle.model.specs.Acts.{Buffers, feedOf, plain}
 use Rattle.model.specs.Book.{Call, feed, complete}
 use Rattle.model.specs.Corollaries.{sessionFrom}
 
@@ -62,7 +63,7 @@ submits zero from = []
 submits (suc n) from = fed (intrIn from 0x0001000f 1 64) ∷ submits n (suc from)
 
 abbrev pub returns : ℕ → Call
-returns ticket = complete (record { ticket = ticket; status = 0; actual = 0; payload = []; header = replicate 48 0 })
+returns ticket = complete (record { ticket = ticket; status = 0; actual = 0; kind = plain; payload = []; header = replicate Limits.HEADER-ROOM 0 })
 
 -- ## What is seen of the last feed
 
@@ -109,6 +110,7 @@ intrUrb ticket seqnum ep size =
           record { seqnum = seqnum; direction = 1; ep = ep; flags = 0x200; length = size; start = 0xffffffff; packets = 0; interval = 4 };
       setup = zeroBytes 8;
       arrival = 0;
+      iso = inArray [];
     }
 
 abbrev pub minus-19 : List ℕ

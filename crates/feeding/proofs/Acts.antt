@@ -82,7 +82,7 @@ module _ (t : Table) (k : Link) (l : Pending) (piece : List ℕ) (b : Buffers) (
   tests-are = rw e
 
   kept : changed l (keeps (l .count)) ≡ l
-  kept = keep-is l (arrays .1)
+  kept = keep-is l (arrays .2)
 
   -- a refusal says nothing, and leaves all as it was
   composed-refused : (n : ℕ) → first tests ≡ some n → Composed (refusedPlan k (l .count) n) [] t k l piece b time
@@ -105,7 +105,8 @@ module _ (t : Table) (k : Link) (l : Pending) (piece : List ℕ) (b : Buffers) (
     never : (bytes : List ℕ) (r : Plan) (n : ℕ) → Feeds bytes r t k l 0 (k .progress) piece time → r .event ≡ Refused n → ⊥
     unfolding fedFrom
     never bytes r n y z =
-        let v = ap (λ (x : Case). eventOf x (r .setup) (ticketsDropped l (r .change))) z in
+        let u = r .change .urb in
+        let v = ap (λ (x : Case). eventOf x (u .setup) (u .iso) (ticketsDropped l (r .change))) z in
         let q : _≡_ {A = ℕ} 0 1 = cc (v, ap (λ (x : Result). x .event) (y .fed b)) in
         omega arith
 
@@ -130,13 +131,13 @@ unfolding messagePlan
 message-composed t k l piece b time a w =
     let closed = not (eqb (phaseOf k (l .count)) Limits.ATTACHED) in
     let e = closed-away k (l .count) w in
-    by-first (λ (r : Plan). Composed r (replyBytes (r .reply)) t k l piece b time)
+    by-first (λ (r : Plan). Composed r (replyBytes (r .iso) (r .reply)) t k l piece b time)
     (first (Verdicts.feedTests closed (length (b .work)) (length (b .reply))))
     (composed-refused t k l piece b time a closed e)
     (λ f.
     let h = lives t k l piece b time a closed e f in
     let n = attached-known (k .phase) (k .progress) (h .1) w in
-    composed-feed t k l piece b time a closed e f _ _ (attached-feeds t k l (h .0, n .0) (a .1) (a .2) piece time (a .0) (n .1)))
+    composed-feed t k l piece b time a closed e f _ _ (attached-feeds t k l (h .0, n .0) (a .2) (a .3) piece time (a .0) (a .1) (n .1)))
 
 pub request-composed : RequestComposed
 unfolding requestPlan
@@ -149,4 +150,4 @@ request-composed t k l piece b time a ds w =
     (λ f.
     let h = lives t k l piece b time a closed e f in
     composed-feed t k l piece b time a closed e f _ _
-    (waiting-feeds t k l w (h .0) (a .1) (a .2) ds piece time (a .0) (waiting-known (k .phase) (k .progress) (h .1) w)))
+    (waiting-feeds t k l w (h .0) (a .2) (a .3) ds piece time (a .0) (waiting-known (k .phase) (k .progress) (h .1) w)))

@@ -1,10 +1,10 @@
 -- A header that grows, as the code keeps it.
-use Prim.Native.Nat.{ℕ, zero, suc, _+_, _-_, _≤_, _<_}
+use Prim.Native.Nat.{ℕ, _+_, _-_, _≤_, _<_}
 use native.Mathlib.Omega.{arith}
 use mathlib.Core.Path.{_≡_, sym, ap, _∙_}
-use mathlib.Core.List.{List, _++_, append-assoc, append-nil}
-use lib.ListN.{length, take, drop, replicate, length-append, length-drop, drop-of-length-le}
-use lib.Seq.{take-at, drop-at, drop-drop, length-take-le}
+use mathlib.Core.List.{List, [], _++_, append-nil}
+use lib.ListN.{length, take, drop, drop-of-length-le}
+use lib.Seq.{length-take-le}
 use Rattle.wire.specs.Codes
 use Rattle.messages.specs.Messages.{requestOf, busidOf, headerOf}
 use Rattle.messages.proofs.Headers.{request-stays}
@@ -15,6 +15,7 @@ use Rattle.links.specs.Links.{Parts, messageOf, during, Padded}
 use Rattle.links.specs.declared.link.Progress.{Progress}
 use Rattle.links.proofs.Views.{message-partly}
 use Rattle.feeding.specs.Asking.{grown}
+use Rattle.feeding.proofs.Behind.{front-length, filled-parts, filled-front, filled-length, filled-rest}
 use Rattle.feeding.proofs.Stages.{Calm, Makes, unplaced, makes-more, makes-header}
 use Rattle.feeding.proofs.Moments.{calm-8, calm-40, calm-48}
 
@@ -22,48 +23,35 @@ use Rattle.feeding.proofs.Moments.{calm-8, calm-40, calm-48}
 abbrev pub came : Progress → List ℕ
 came p = take (p .filled) (p .head)
 
-drop-zeros : (m n : ℕ) → _≡_ {A = List ℕ} (drop m (replicate n 0)) (replicate (n - m) 0)
-drop-zeros zero n = let e : n ≡ n - 0 = omega arith in ap (λ (k : ℕ). replicate k 0) e
-drop-zeros (suc m) zero = let e : 0 ≡ 0 - suc m = omega arith in ap (λ (k : ℕ). replicate k 0) e
-drop-zeros (suc m) (suc n) = let e : n - m ≡ suc n - suc m = omega arith in drop-zeros m n ∙ ap (λ (k : ℕ). replicate k 0) e
-
 module _ (p : Progress) (size : length (p .head) ≡ Codes.HEADER-LEN) where
   came-length : p .filled ≤ Codes.HEADER-LEN → length (came p) ≡ p .filled
   came-length h = length-take-le (p .filled) (p .head) (omega arith)
 
   module _ (xs : List ℕ) (fit : p .filled + length xs ≤ Codes.HEADER-LEN) where
+    fit-head : p .filled + length xs ≤ length (p .head)
+    fit-head = omega arith
+
     pub grown-length : length (came p ++ xs) ≡ p .filled + length xs
-    grown-length = length-append (came p) xs ∙ rw (came-length (omega arith))
+    grown-length = front-length (p .filled) (p .head) xs fit-head
 
-    -- those that came before, the new ones, and what stood behind
     grown-head : grown p xs .head ≡ (came p ++ xs) ++ drop (p .filled + length xs) (p .head)
-    grown-head = sym (append-assoc (came p) xs (drop (p .filled + length xs) (p .head)))
-
-    grown-came : came (grown p xs) ≡ came p ++ xs
-    grown-came =
-        ap (take (p .filled + length xs)) grown-head
-        ∙ take-at (came p ++ xs) (drop (p .filled + length xs) (p .head)) (p .filled + length xs) grown-length
+    grown-head = filled-parts (p .filled) (p .head) xs fit-head
 
     pub grown-size : length (grown p xs .head) ≡ Codes.HEADER-LEN
-    grown-size =
-        ap length grown-head
-        ∙ rw (length-append (came p ++ xs) (drop (p .filled + length xs) (p .head)), length-drop (p .filled + length xs) (p .head), grown-length)
-        (omega arith)
-
-    grown-rest : drop (p .filled + length xs) (grown p xs .head) ≡ drop (length xs) (drop (p .filled) (p .head))
-    grown-rest =
-        ap (drop (p .filled + length xs)) grown-head
-        ∙ drop-at (came p ++ xs) (drop (p .filled + length xs) (p .head)) (p .filled + length xs) grown-length
-        ∙ sym (drop-drop (length xs) (p .filled) (p .head))
+    grown-size = filled-length (p .filled) (p .head) xs fit-head ∙ size
 
     -- zeros stay behind
     pub grown-padded : p .filled + length xs < Codes.HEADER-LEN → Padded p → Padded (grown p xs)
     grown-padded l z =
         let g = z .grows (omega arith) in
-        let e : Codes.HEADER-LEN - p .filled - length xs ≡ Codes.HEADER-LEN - (p .filled + length xs) = omega arith in
-        let zeros : drop (length xs) (drop (p .filled) (p .head)) ≡ replicate (Codes.HEADER-LEN - (p .filled + length xs)) 0 =
-        rw (g .0, drop-zeros (length xs) (Codes.HEADER-LEN - p .filled), e) in
-        record { size = grown-size; fits = fit; grows = λ _. (grown-rest ∙ zeros, g .1, g .2); read = λ e. absurd (omega arith) }
+        record {
+          size = grown-size;
+          fits = fit;
+          grows = λ _. (filled-rest (p .filled) (p .head) xs fit-head Codes.HEADER-LEN (g .0), g .1, g .2);
+          read = λ e. absurd (omega arith);
+          places = z .places;
+          behind = z .behind;
+        }
 
     -- what stands in the bytes that came, those behind don't change
     pub request-front : Codes.OP-LEN ≤ p .filled + length xs → requestOf (came p ++ xs) ≡ requestOf (grown p xs .head)
@@ -85,7 +73,7 @@ module _ (p : Progress) (size : length (p .head) ≡ Codes.HEADER-LEN) where
     -- ## What the bytes make of the message
 
     pub message-grown : p .filled + length xs < Codes.HEADER-LEN → messageOf (grown p xs) ≡ partly (came p ++ xs)
-    message-grown l = message-partly (grown p xs) l ∙ ap partly grown-came
+    message-grown l = message-partly (grown p xs) l ∙ ap partly (filled-front (p .filled) (p .head) xs fit-head)
 
     module _ (s : Parts) where
       pub grown-makes : p .filled + length xs < Codes.HEADER-LEN → Makes s (messageOf p) xs (messageOf (grown p xs)) unplaced
@@ -94,7 +82,7 @@ module _ (p : Progress) (size : length (p .head) ≡ Codes.HEADER-LEN) where
           (makes-more s (came p) xs (rw (came-length (omega arith)) l))
 
       pub read-makes : 0 < length xs → p .filled + length xs ≡ Codes.HEADER-LEN
-          → Makes s (messageOf p) xs (headed (headerOf (grown p xs .head)) 0) unplaced
+          → Makes s (messageOf p) xs (headed (headerOf (grown p xs .head)) 0 []) unplaced
       read-makes l e =
           rw (message-partly p (omega arith), ← header-front e) (makes-header s (came p) xs l (rw (came-length (omega arith)) e))
 

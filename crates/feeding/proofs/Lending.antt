@@ -1,10 +1,11 @@
 -- What the code lends of a piece and writes of a header.
 use Prim.Native.Nat.{ℕ, _+_, _-_, _≤_, _<_}
 use native.Mathlib.Omega.{arith}
-use mathlib.Core.Path.{_≡_, sym, ap, _∙_}
+use mathlib.Core.Path.{_≡_, sym, ap, subst, _∙_}
 use mathlib.Core.List.{List, _++_, append-assoc}
-use lib.ListN.{length, take, drop, length-append, length-drop}
+use lib.ListN.{length, take, drop, length-append, length-drop, take-append-drop, drop-of-length-le}
 use lib.Seq.{take-all, length-take-le}
+use Rattle.limits.specs.Limits.{DESCRIPTORS-LEN}
 use Rattle.wire.specs.Codes
 use Rattle.ground.specs.Writing.{Wrote}
 use Rattle.links.specs.declared.link.Progress.{Progress}
@@ -31,6 +32,22 @@ part-front n xs = let e : n - 0 ≡ n = omega arith in ap (λ (m : ℕ). take m 
 
 pub part-need : (at need : ℕ) (xs : List ℕ) → take (at + need - at) (drop at xs) ≡ take need (drop at xs)
 part-need at need xs = let e : at + need - at ≡ need = omega arith in ap (λ (m : ℕ). take m (drop at xs)) e
+
+-- ## The descriptors of a body
+
+-- bytes that are all data bring none
+pub none-more : (ds xs : List ℕ) (skip at : ℕ) → length xs ≤ skip → take at ds ++ (drop skip xs ++ drop (at + length (drop skip xs)) ds) ≡ ds
+none-more ds xs skip at h =
+    let z : at + 0 ≡ at = omega arith in
+    rw (drop-of-length-le xs {i = skip} h) (ap (λ (k : ℕ). take at ds ++ drop k ds) z ∙ take-append-drop at ds)
+
+-- those that aren't go behind the ones that came before
+pub some-more : (ds xs ys : List ℕ) (skip at count : ℕ) → length ds ≡ DESCRIPTORS-LEN → at + (length xs - skip) ≤ DESCRIPTORS-LEN
+    → Wrote (take (length xs - skip) (drop skip xs)) (take (DESCRIPTORS-LEN - at) (drop at ds)) ys count
+    → take at ds ++ (ys ++ drop (DESCRIPTORS-LEN - at) (drop at ds)) ≡ take at ds ++ (drop skip xs ++ drop (at + length (drop skip xs)) ds)
+some-more ds xs ys skip at count e h w =
+    put-behind DESCRIPTORS-LEN ds (drop skip xs) ys at count e (rw length-drop h)
+    (subst (λ (B : List ℕ). Wrote B (take (DESCRIPTORS-LEN - at) (drop at ds)) ys count) (part-rest xs skip) w)
 
 -- ## A request's head
 

@@ -3,12 +3,12 @@ use Prim.Native.Nat.{ℕ, _+_, _-_, _≤_, _<_}
 use native.Mathlib.Omega.{arith}
 use mathlib.Core.Path.{_≡_, refl, ap, _∙_}
 use mathlib.Core.Bool.{false}
-use mathlib.Core.List.{List, _++_}
+use mathlib.Core.List.{List, [], _++_}
 use mathlib.Core.Option.{Option, none, some}
-use lib.ListN.{length, length-append}
+use lib.ListN.{length, drop, length-append}
 use borrow.Author.Tests.{lt-ltb, le-ltb, eq-eqb, ne-eqb}
 use Rattle.wire.specs.Codes
-use Rattle.messages.specs.Messages.{requestOf, bodyLen, unlinkSeqnum}
+use Rattle.messages.specs.Messages.{requestOf, dataLen, bodyLen, unlinkSeqnum}
 use Rattle.messages.specs.declared.message.Header.{Header}
 use Rattle.pending.specs.Pending.{seqnumOf, findBy}
 use Rattle.pending.specs.declared.urb.Urb.{Urb}
@@ -82,12 +82,12 @@ module _ (time : ℕ) (s : Sess) (w : s .link .phase ≡ Limits.WAITING → ⊥)
   unfolding judge message pick
   wait-48 m i = rw (ne-eqb (s .link .phase) Limits.WAITING w, i)
 
-  pub at-48 : (h : Header) → s .link .message ≡ headed h 0 → judge time s ≡ wholeHeader time s h
+  pub at-48 : (h : Header) → s .link .message ≡ headed h 0 [] → judge time s ≡ wholeHeader time s h
   unfolding judge message pick
   at-48 h i = rw (ne-eqb (s .link .phase) Limits.WAITING w, i)
 
-  module _ (h : Header) (n : ℕ) (i : s .link .message ≡ headed h n) (p : 0 < n) where
-    judge-body : judge time s ≡ submitting time s h n
+  module _ (h : Header) (n : ℕ) (ds : List ℕ) (i : s .link .message ≡ headed h n ds) (p : 0 < n) where
+    judge-body : judge time s ≡ submitting time s h n ds
     unfolding judge message pick
     judge-body = rw (ne-eqb (s .link .phase) Limits.WAITING w, i, ne-eqb n 0 (λ e. omega arith))
 
@@ -95,7 +95,7 @@ module _ (time : ℕ) (s : Sess) (w : s .link .phase ≡ Limits.WAITING → ⊥)
     unfolding submitting pick
     wait-body l = judge-body ∙ rw (lt-ltb n (bodyLen h) l)
 
-    pub at-body : n ≡ bodyLen h → judge time s ≡ submitted time s h
+    pub at-body : n ≡ bodyLen h → judge time s ≡ submitted time s h ds
     unfolding submitting pick
     at-body l = judge-body ∙ rw (le-ltb n (bodyLen h) (omega arith))
 
@@ -106,10 +106,11 @@ module _ (s : Sess) (w : s .link .phase ≡ Limits.WAITING → ⊥) where
       ap (λ (t : Sess). isHungry (judge time t)) (grow-in m ys s i (omega arith))
       ∙ ap isHungry (wait-48 time (holding s (partly (m ++ ys))) w (m ++ ys) refl)
 
-  pub calm-body : (h : Header) (n : ℕ) → s .link .message ≡ headed h n → Calm s (bodyLen h - n)
-  calm-body h n i time ys p l =
-      ap (λ (t : Sess). isHungry (judge time t)) (grow-body h n ys s i)
-      ∙ ap isHungry (wait-body time (holding s (headed h (n + length ys))) w h (n + length ys) refl (omega arith) (omega arith))
+  pub calm-body : (h : Header) (n : ℕ) (ds : List ℕ) → s .link .message ≡ headed h n ds → Calm s (bodyLen h - n)
+  calm-body h n ds i time ys p l =
+      let es = ds ++ drop (dataLen h - n) ys in
+      ap (λ (t : Sess). isHungry (judge time t)) (grow-body h n ds ys s i)
+      ∙ ap isHungry (wait-body time (holding s (headed h (n + length ys) es)) w h (n + length ys) es refl (omega arith) (omega arith))
 
 module _ (time : ℕ) (s : Sess) (h : Header) where
   pub header-bad : (f : Fault) → first (headerTestsOf h (s .link .devid) (s .pend)) ≡ some f → wholeHeader time s h ≡ breaks s f
@@ -123,11 +124,11 @@ module _ (time : ℕ) (s : Sess) (h : Header) where
     header-unlink e = rw (f, ne-eqb (h .command) Codes.CMD-SUBMIT e)
 
     module _ (e : h .command ≡ Codes.CMD-SUBMIT) where
-      header-submit : wholeHeader time s h ≡ submitting time s h 0
+      header-submit : wholeHeader time s h ≡ submitting time s h 0 []
       unfolding wholeHeader decide pick
       header-submit = rw (f, eq-eqb (h .command) Codes.CMD-SUBMIT e)
 
-      pub header-whole : bodyLen h ≡ 0 → wholeHeader time s h ≡ submitted time s h
+      pub header-whole : bodyLen h ≡ 0 → wholeHeader time s h ≡ submitted time s h []
       unfolding submitting pick
       header-whole z = header-submit ∙ rw (le-ltb 0 (bodyLen h) (omega arith))
 
@@ -135,9 +136,9 @@ module _ (time : ℕ) (s : Sess) (h : Header) where
       unfolding submitting pick
       header-body l = header-submit ∙ rw (lt-ltb 0 (bodyLen h) l)
 
-  pub submit-said : isHungry (submitted time s h) ≡ false
+  pub submit-said : (ds : List ℕ) → isHungry (submitted time s h ds) ≡ false
   unfolding submitted
-  submit-said = by-first (λ e. isHungry e ≡ false) (first (submitTestsOf h s)) (λ _ _. refl) (λ _. refl)
+  submit-said ds = by-first (λ e. isHungry e ≡ false) (first (submitTestsOf h ds s)) (λ _ _. refl) (λ _. refl)
 
 pub unlink-said : (q : ℕ) (o : Option Urb) → isHungry (unlinks q o) ≡ false
 unlink-said q none = refl

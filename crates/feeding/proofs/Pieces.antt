@@ -15,7 +15,7 @@ use Rattle.model.specs.Cut.{lent}
 use Rattle.links.specs.Links.{whole, messageOf, during, Clean, Padded, TidyParts}
 use Rattle.links.specs.declared.link.Link.{Link}
 use Rattle.links.specs.declared.link.Progress.{Progress}
-use Rattle.events.specs.Plans.{withData, partsAfter, dataOf, carriedWith}
+use Rattle.events.specs.Plans.{withBody, partsAfter, dataOf, carriedWith}
 use Rattle.events.specs.declared.plan.Plan.{Plan}
 use Rattle.events.proofs.Saying.{resultAt, Says}
 use Rattle.feeding.proofs.Stages.{fedFrom, placedAt}
@@ -45,12 +45,12 @@ module _ (t : Table) (k : Link) (l : Pending) (at : ℕ) (p : Progress) (piece :
             tidy = λ c g. y .tidy c (z g);
           }
 
-      -- the same plan with data
-      pub feeds-data : (body to : ℕ) → to ≤ length piece → body + (to - at) ≤ Limits.WORK-LEN
+      -- the same plan with bytes of a body
+      pub feeds-body : (body to : ℕ) → to ≤ length piece → body + (to - at) ≤ Limits.WORK-LEN
           → ((b : Buffers) → fedFrom time at start b (drop at piece)
           ≡ resultAt (during (whole t k l) m) (placedAt body (take (to - at) (drop at piece)) b) consumed e)
-          → Feeds bytes (withData body at to r) t k l at p piece time
-      feeds-data body to i n h =
+          → Feeds bytes (withBody body at to r) t k l at p piece time
+      feeds-body body to i n h =
           record {
             inside = i;
             room = n;
@@ -63,6 +63,7 @@ module _ (t : Table) (k : Link) (l : Pending) (at : ℕ) (p : Progress) (piece :
                 record {
                   event = x .event;
                   setup = x .setup;
+                  iso = x .iso;
                   dropped = x .dropped;
                   consumed = x .consumed;
                   length = x .length;

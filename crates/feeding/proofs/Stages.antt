@@ -7,7 +7,7 @@ use mathlib.Core.List.{List, [], _∷_, _++_}
 use lib.ListN.{length, take, drop, length-drop, take-append-drop}
 use lib.Seq.{sets, take-at, drop-drop, length-take-le, take-append-add}
 use Rattle.wire.specs.Codes
-use Rattle.messages.specs.Messages.{headerOf}
+use Rattle.messages.specs.Messages.{headerOf, dataLen}
 use Rattle.messages.specs.declared.message.Header.{Header}
 use Rattle.model.specs.State.{Message, partly, headed, Sess}
 use Rattle.model.specs.Answers.{Event, hungry, isHungry}
@@ -73,6 +73,7 @@ consuming n r =
     record {
       event = r .event;
       setup = r .setup;
+      iso = r .iso;
       dropped = r .dropped;
       consumed = n;
       length = r .length;
@@ -131,16 +132,17 @@ module _ (s : Parts) (bytes xs : List ℕ) where
       record { grown = grow-in bytes xs d refl l; placed = λ b. put-in bytes xs d b refl l }
 
   pub makes-header : 0 < length xs → length bytes + length xs ≡ Codes.HEADER-LEN
-      → Makes s (partly bytes) xs (headed (headerOf (bytes ++ xs)) 0) unplaced
+      → Makes s (partly bytes) xs (headed (headerOf (bytes ++ xs)) 0 []) unplaced
   makes-header p e =
       let d = during s (partly bytes) in
       record { grown = grow-whole bytes xs d refl p e; placed = λ b. put-whole bytes xs d b refl p e }
 
 -- a part of the body
-pub makes-body : (s : Parts) (h : Header) (n : ℕ) (xs : List ℕ) → Makes s (headed h n) xs (headed h (n + length xs)) (placedAt n xs)
-makes-body s h n xs =
-    let d = during s (headed h n) in
-    record { grown = grow-body h n xs d refl; placed = λ b. put-body h n xs d b refl }
+pub makes-body : (s : Parts) (h : Header) (n : ℕ) (ds xs : List ℕ)
+    → Makes s (headed h n ds) xs (headed h (n + length xs) (ds ++ drop (dataLen h - n) xs)) (placedAt n xs)
+makes-body s h n ds xs =
+    let d = during s (headed h n ds) in
+    record { grown = grow-body h n ds xs d refl; placed = λ b. put-body h n ds xs d b refl }
 
 -- ## A part of the piece
 

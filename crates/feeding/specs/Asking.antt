@@ -9,7 +9,7 @@ use Rattle.messages.specs.Messages.{headerOf, unlinkSeqnum}
 use Rattle.messages.specs.declared.message.Header.{Header}
 use Rattle.pending.specs.declared.look.Key.{Key}
 use Rattle.pending.specs.declared.look.Key.the-variants.{Nothing, Seqnum}
-use Rattle.links.specs.Links.{bodied}
+use Rattle.links.specs.Links.{noDescriptors, bodied}
 use Rattle.links.specs.declared.link.Link.{Link}
 use Rattle.links.specs.declared.link.Progress.{Progress}
 use Rattle.feeding.specs.declared.ask.Asked.{Asked}
@@ -22,11 +22,12 @@ grown p xs =
       filled = p .filled + length xs;
       header = p .header;
       body = p .body;
+      descriptors = p .descriptors;
     }
 
 -- The header is whole, and read.
 abbrev pub readFrom : Progress → Progress
-readFrom p = bodied (headerOf (p .head)) 0
+readFrom p = bodied (headerOf (p .head)) 0 noDescriptors
 
 -- A submit asks whether its own seqnum is pending, an unlink for the one that it names.
 abbrev pub keyFor : Header → Key

@@ -15,7 +15,7 @@ use Rattle.model.specs.Acts.{Buffers, feedOf}
 use Rattle.model.specs.Cut.{Feeding, written}
 use Rattle.links.specs.Links.{whole, viewOfParts, TidyParts}
 use Rattle.links.specs.declared.link.Link.{Link}
-use Rattle.events.specs.Answers.{setupBeside, ticketsOf, droppedBy}
+use Rattle.events.specs.Answers.{urbBeside, ticketsOf, droppedBy}
 use Rattle.events.specs.Plans.{Result, replyBytes, requestBytes, partsAfter, carriedWith}
 use Rattle.events.specs.declared.answer.Event.the-variants.{Refused}
 use Rattle.events.specs.declared.plan.Plan.{Plan}
@@ -27,7 +27,8 @@ abbrev pub resultOf : Sess → List ℕ → Feeding → Result
 resultOf s piece r =
     record {
       event = r .event;
-      setup = setupBeside (r .event);
+      setup = urbBeside (r .event) .setup;
+      iso = urbBeside (r .event) .iso;
       dropped = ticketsOf (droppedBy (r .event));
       consumed = r .consumed;
       length = written s piece r;
@@ -51,19 +52,23 @@ pub record Composed (r : Plan) (bytes : List ℕ) (t : Table) (k : Link) (l : Pe
 
 -- As their types have it: the arrays have their lengths, and the count of accepted URBs is a number of 64 bits.
 abbrev pub Arrays : Link → Pending → Type 0
-Arrays k l = (length (k .progress .head) ≡ Codes.HEADER-LEN) × Whole l × (k .counts .accepted ≤ Limits.LAST-TICKET)
+Arrays k l =
+    (length (k .progress .head) ≡ Codes.HEADER-LEN)
+    × (length (k .progress .descriptors) ≡ Limits.DESCRIPTORS-LEN)
+    × Whole l
+    × (k .counts .accepted ≤ Limits.LAST-TICKET)
 
 -- What a piece asks is looked up once in the pending list, and planned from values.
 abbrev pub feedPlan : Link → Pending → (piece : List ℕ) → (work reply time : ℕ) → Plan
 feedPlan k l piece work reply time =
     let a = askOf k piece in
-    messagePlan k (l .count) a (lookFor (listOf l) (a .key)) (length piece) work reply time
+    messagePlan k (l .count) a (lookFor (listOf l) (a .key)) piece work reply time
 
 -- The feed of a message.
 abbrev pub MessageComposed : Type 0
 MessageComposed = (t : Table) (k : Link) (l : Pending) (piece : List ℕ) (b : Buffers) (time : ℕ) → Arrays k l → (k .phase ≡ Limits.WAITING → ⊥)
     → let r = feedPlan k l piece (length (b .work)) (length (b .reply)) time in
-    Composed r (replyBytes (r .reply)) t k l piece b time
+    Composed r (replyBytes (r .iso) (r .reply)) t k l piece b time
 
 -- A request, with which no time matters. (The table's array has its length, too.)
 abbrev pub RequestComposed : Type 0

@@ -1,5 +1,6 @@
 // What a piece brings of a header, and what must be looked up for it.
 use ground::writing::write;
+use limits::DESCRIPTORS_LEN;
 use links::link::Link;
 use links::link::Progress;
 use messages::message::Header;
@@ -50,6 +51,7 @@ fn read_from(p: Progress) -> Progress
         filled: HEADER_LEN,
         header: header,
         body: 0,
+        descriptors: [0u8; DESCRIPTORS_LEN],
     }
 }
 

@@ -42,13 +42,23 @@ MAX-TRANSFER = 16384
 abbrev pub NO-PACKETS : ℕ
 NO-PACKETS = 0xffffffff
 
--- ## Lent buffers: the least sizes of a work buffer and of a reply buffer
+-- The most packets of an isochronous transfer, and the bytes of their descriptors.
+abbrev pub MAX-PACKETS : ℕ
+MAX-PACKETS = 32
+
+abbrev pub DESCRIPTORS-LEN : ℕ
+DESCRIPTORS-LEN = 512
+
+-- ## Lent buffers: the least sizes of a work buffer, of a reply buffer and of a completion's header buffer
 
 abbrev pub WORK-LEN : ℕ
-WORK-LEN = 16384
+WORK-LEN = 16896
 
 abbrev pub REPLY-LEN : ℕ
 REPLY-LEN = 8192
+
+abbrev pub HEADER-ROOM : ℕ
+HEADER-ROOM = 560
 
 -- ## Phases of a session
 
@@ -78,8 +88,8 @@ NOT-PENDING = 4
 abbrev pub STATUS-ABOVE-0 : ℕ
 STATUS-ABOVE-0 = 5
 
-abbrev pub ACTUAL-TOO-LONG : ℕ
-ACTUAL-TOO-LONG = 6
+abbrev pub MISFIT : ℕ
+MISFIT = 6
 
 abbrev pub SHORT-DATA : ℕ
 SHORT-DATA = 7

@@ -19,9 +19,15 @@ pub const MAX_TRANSFER: u32 = 16_384;
 
 pub const NO_PACKETS: u32 = 0xffff_ffff;
 
-pub const WORK_LEN: usize = 16_384;
+pub const MAX_PACKETS: usize = 32;
+
+pub const DESCRIPTORS_LEN: usize = 512;
+
+pub const WORK_LEN: usize = 16_896;
 
 pub const REPLY_LEN: usize = 8192;
+
+pub const HEADER_ROOM: usize = 560;
 
 pub const WAITING: u8 = 0;
 
@@ -39,7 +45,7 @@ pub const NOT_PENDING: u32 = 4;
 
 pub const STATUS_ABOVE_0: u32 = 5;
 
-pub const ACTUAL_TOO_LONG: u32 = 6;
+pub const MISFIT: u32 = 6;
 
 pub const SHORT_DATA: u32 = 7;
 

@@ -5,6 +5,7 @@ use mathlib.Core.Option.{some}
 use lib.ListN.{replicate}
 use Rattle.wire.specs.Codes
 use Rattle.wire.specs.Status.{minus}
+use Rattle.packets.specs.Packets.{inArray}
 use Rattle.pending.specs.declared.urb.Urb.{Urb}
 use Rattle.verdicts.specs.Verdicts.{fault}
 use Rattle.model.specs.Answers.{refused, done, hungry, list, import, submit, answer, unlink, break}
@@ -20,6 +21,7 @@ urb =
       transfer = record { seqnum = 3333; direction = 1; ep = 1; flags = 512; length = 64; start = 0xffffffff; packets = 0; interval = 4 };
       setup = replicate Codes.SETUP-LEN 0;
       arrival = 0;
+      iso = inArray [];
     }
 
 pub example :

@@ -22,6 +22,7 @@ ghost use lib.ListN.{length, take};
 ghost use Rattle.ground.specs.Lists.{joined};
 ghost use Rattle.ground.specs.Writing.{Wrote};
 ghost use Rattle.limits.specs.Limits.{MAX-PENDING};
+ghost use Rattle.packets.specs.declared.packet.Packet.{Packet};
 ghost use Rattle.events.specs.Answers.{eventOf, completionOf, closingOf};
 ghost use Rattle.numerals.specs.Digits.{ascii, decimal, statusText};
 ghost use Rattle.numerals.specs.Texts.{TEXT-LEN, WORD-LEN, LINE-LEN, DROPPED-LEN, lineOf, line, textOf, TextHolds};
@@ -125,7 +126,7 @@ fn with_dropped(t: Text, dropped: Tickets) -> Text
 }
 
 fn event_text(event: Event, dropped: Tickets) -> Text
-    ensures { λ r. ⌜ ((setup : List ℕ) → TextHolds r (feedLines (eventOf event setup dropped)) TEXT-LEN) ⌝ }
+    ensures { λ r. ⌜ ((setup : List ℕ) (iso : List Packet) → TextHolds r (feedLines (eventOf event setup iso dropped)) TEXT-LEN) ⌝ }
 {
     match event {
         Event::Hungry => empty(),
@@ -144,7 +145,7 @@ fn event_text(event: Event, dropped: Tickets) -> Text
 
 // Writes the lines of a feed's answer, if the buffer has room, and answers how many bytes it wrote.
 pub fn feed_lines(a: Answer, dropped: Tickets, out: &mut [u8]) -> usize
-    ensures { λ n. ⌜ Wrote (feedLines (eventOf (a .event) (a .setup) dropped)) (now (out .entry)) (now (out .exit)) n ⌝ }
+    ensures { λ n. ⌜ Wrote (feedLines (eventOf (a .event) (a .setup) (a .iso) dropped)) (now (out .entry)) (now (out .exit)) n ⌝ }
 {
     let event = a.event;
     let t = event_text(event, dropped);

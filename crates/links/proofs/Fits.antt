@@ -6,7 +6,7 @@ use mathlib.Core.Bool.{Bool, true, false, cond, not, _&&_, _||_, true≢false}
 use lib.Dec.{eqb, leb, ltb}
 use borrow.Author.Tests.{eqb-true, eqb-false, eq-eqb, ne-eqb, le-leb, lt-leb, leb-true, lt-ltb, le-ltb, ltb-true}
 use Rattle.wire.specs.Codes
-use Rattle.messages.specs.Messages.{bodyLen}
+use Rattle.messages.specs.Messages.{dataLen, bodyLen}
 use Rattle.pending.specs.declared.counts.Counts.{Counts}
 use Rattle.limits.specs.Limits
 use Rattle.links.specs.Links.{Parts, countsFit, attachedFits, progressFits, phaseOf, plus, Attached}
@@ -45,12 +45,12 @@ module _ (p : Progress) where
   pub in-header : p .filled < Codes.HEADER-LEN → attachedFits p ≡ true
   in-header h = rw (lt-ltb (p .filled) Codes.HEADER-LEN h)
 
-  module _ (n : ℕ) (e : n ≡ bodyLen (p .header)) (h : p .filled ≡ Codes.HEADER-LEN) where
-    pub long-body : Limits.MAX-TRANSFER < n → false ≡ attachedFits p
-    long-body l = rw (← e, h, lt-leb n Limits.MAX-TRANSFER l)
+  module _ (n : ℕ) (e : n ≡ dataLen (p .header)) (h : p .filled ≡ Codes.HEADER-LEN) where
+    pub long-data : Limits.MAX-TRANSFER < n → false ≡ attachedFits p
+    long-data l = rw (← e, h, lt-leb n Limits.MAX-TRANSFER l)
 
-    pub in-body : n ≤ Limits.MAX-TRANSFER → ltb (p .body) n ≡ attachedFits p
-    in-body l = rw (← e, h, le-leb n Limits.MAX-TRANSFER l)
+    pub in-body : (m : ℕ) → m ≡ bodyLen (p .header) → n ≤ Limits.MAX-TRANSFER → ltb (p .body) m ≡ attachedFits p
+    in-body m b l = rw (← b, ← e, h, le-leb n Limits.MAX-TRANSFER l)
 
 -- ## The phase
 
@@ -107,14 +107,15 @@ attached-known phase p h w =
     (eqb-true phase Limits.ATTACHED (b .0), b .1)
 
 pub body-known : (p : Progress) → attachedFits p ≡ true → Codes.HEADER-LEN ≤ p .filled
-    → (p .filled ≡ Codes.HEADER-LEN) × (p .body < bodyLen (p .header)) × (bodyLen (p .header) ≤ Limits.MAX-TRANSFER)
+    → (p .filled ≡ Codes.HEADER-LEN) × (p .body < bodyLen (p .header)) × (dataLen (p .header) ≤ Limits.MAX-TRANSFER)
 body-known p h l =
+    let m = dataLen (p .header) in
     let n = bodyLen (p .header) in
-    let rest = leb n Limits.MAX-TRANSFER && ltb (p .body) n in
+    let rest = leb m Limits.MAX-TRANSFER && ltb (p .body) n in
     let z : ltb (p .filled) Codes.HEADER-LEN ≡ false = le-ltb (p .filled) Codes.HEADER-LEN l in
     let a = both (eqb (p .filled) Codes.HEADER-LEN) rest (either (ltb (p .filled) Codes.HEADER-LEN) (eqb (p .filled) Codes.HEADER-LEN && rest) h z) in
-    let c = both (leb n Limits.MAX-TRANSFER) (ltb (p .body) n) (a .1) in
-    (eqb-true (p .filled) Codes.HEADER-LEN (a .0), ltb-true (p .body) n (c .1), leb-true n Limits.MAX-TRANSFER (c .0))
+    let c = both (leb m Limits.MAX-TRANSFER) (ltb (p .body) n) (a .1) in
+    (eqb-true (p .filled) Codes.HEADER-LEN (a .0), ltb-true (p .body) n (c .1), leb-true m Limits.MAX-TRANSFER (c .0))
 
 -- ## A message that goes on
 
@@ -124,9 +125,9 @@ fits-waiting phase q w h = rw (w, lt-ltb (q .filled) (Codes.OP-LEN + Codes.BUSID
 pub fits-header : (phase : ℕ) (q : Progress) → phase ≡ Limits.ATTACHED → q .filled < Codes.HEADER-LEN → progressFits phase q ≡ true
 fits-header phase q w h = rw (w, lt-ltb (q .filled) Codes.HEADER-LEN h)
 
-pub fits-body : (phase : ℕ) (q : Progress) → phase ≡ Limits.ATTACHED → q .filled ≡ Codes.HEADER-LEN → bodyLen (q .header) ≤ Limits.MAX-TRANSFER
+pub fits-body : (phase : ℕ) (q : Progress) → phase ≡ Limits.ATTACHED → q .filled ≡ Codes.HEADER-LEN → dataLen (q .header) ≤ Limits.MAX-TRANSFER
     → q .body < bodyLen (q .header) → progressFits phase q ≡ true
-fits-body phase q w h l b = rw (w, h, le-leb (bodyLen (q .header)) Limits.MAX-TRANSFER l, lt-ltb (q .body) (bodyLen (q .header)) b)
+fits-body phase q w h l b = rw (w, h, le-leb (dataLen (q .header)) Limits.MAX-TRANSFER l, lt-ltb (q .body) (bodyLen (q .header)) b)
 
 -- ## Sums
 

@@ -11,14 +11,14 @@ use Rattle.pending.specs.declared.counts.Counts.{Counts}
 use Rattle.pending.specs.declared.list.Pending.{Pending}
 use Rattle.limits.specs.Limits
 use Rattle.model.specs.State.{Sess, partly, headed, withLink, inPhase}
-use Rattle.links.specs.Links.{Parts, countsFit, progressFits, phaseOf, messageOf, bareOf, viewOfParts, whole, resting, Live}
+use Rattle.links.specs.Links.{Parts, countsFit, progressFits, phaseOf, descriptorsIn, messageOf, bareOf, viewOfParts, whole, resting, Live}
 use Rattle.links.specs.declared.link.Progress.{Progress}
 
 -- the message in progress, while its header grows and once it is read
 pub message-partly : (p : Progress) → p .filled < Codes.HEADER-LEN → messageOf p ≡ partly (take (p .filled) (p .head))
 message-partly p h = rw (lt-ltb (p .filled) Codes.HEADER-LEN h)
 
-pub message-headed : (p : Progress) → Codes.HEADER-LEN ≤ p .filled → messageOf p ≡ headed (p .header) (p .body)
+pub message-headed : (p : Progress) → Codes.HEADER-LEN ≤ p .filled → messageOf p ≡ headed (p .header) (p .body) (descriptorsIn p)
 message-headed p h = rw (le-ltb (p .filled) Codes.HEADER-LEN h)
 
 -- the view of a session whose parts fit together, and of one that is closed

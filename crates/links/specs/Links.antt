@@ -2,10 +2,11 @@
 use Prim.Native.Nat.{ℕ, _+_, _-_, _≤_, _<_}
 use mathlib.Core.Path.{_≡_}
 use mathlib.Core.Bool.{Bool, true, cond, _&&_, _||_}
+use mathlib.Core.List.{List}
 use lib.Dec.{eqb, leb, ltb}
 use lib.ListN.{length, take, drop, replicate}
 use Rattle.wire.specs.Codes
-use Rattle.messages.specs.Messages.{blankHeader, bodyLen}
+use Rattle.messages.specs.Messages.{blankHeader, dataLen, bodyLen}
 use Rattle.messages.specs.declared.message.Header.{Header}
 use Rattle.exports.specs.declared.device.Table.{Table}
 use Rattle.pending.specs.Pending.{listOf, Whole, Sound}
@@ -28,8 +29,12 @@ whole t k l = record { table = t; link = k; pending = l }
 
 -- ## The view
 
+-- The bytes of descriptors that came: those of the body that stand behind the data.
+abbrev pub descriptorsIn : Progress → List ℕ
+descriptorsIn p = take (p .body - dataLen (p .header)) (p .descriptors)
+
 abbrev pub messageOf : Progress → Message
-messageOf p = cond (ltb (p .filled) Codes.HEADER-LEN) (partly (take (p .filled) (p .head))) (headed (p .header) (p .body))
+messageOf p = cond (ltb (p .filled) Codes.HEADER-LEN) (partly (take (p .filled) (p .head))) (headed (p .header) (p .body) (descriptorsIn p))
 
 -- As they stand; with this message in progress.
 abbrev pub bareOf : Parts → Sess
@@ -52,7 +57,7 @@ countsFit c pending = leb pending Limits.MAX-PENDING && eqb (c .accepted) (pendi
 abbrev pub attachedFits : Progress → Bool
 attachedFits p =
     ltb (p .filled) Codes.HEADER-LEN
-    || (eqb (p .filled) Codes.HEADER-LEN && (leb (bodyLen (p .header)) Limits.MAX-TRANSFER && ltb (p .body) (bodyLen (p .header))))
+    || (eqb (p .filled) Codes.HEADER-LEN && (leb (dataLen (p .header)) Limits.MAX-TRANSFER && ltb (p .body) (bodyLen (p .header))))
 
 abbrev pub progressFits : ℕ → Progress → Bool
 progressFits phase p =
@@ -78,12 +83,15 @@ Attached s = (countsFit (s .link .counts) (s .pending .count) ≡ true) × (s .l
 
 -- ## Links
 
-abbrev pub noProgress : Progress
-noProgress = record { head = replicate Codes.HEADER-LEN 0; filled = 0; header = blankHeader; body = 0 }
+abbrev pub noDescriptors : List ℕ
+noDescriptors = replicate Limits.DESCRIPTORS-LEN 0
 
--- A whole header, with so many bytes of the body.
-abbrev pub bodied : Header → ℕ → Progress
-bodied h body = record { head = replicate Codes.HEADER-LEN 0; filled = Codes.HEADER-LEN; header = h; body = body }
+abbrev pub noProgress : Progress
+noProgress = record { head = replicate Codes.HEADER-LEN 0; filled = 0; header = blankHeader; body = 0; descriptors = noDescriptors }
+
+-- A whole header, with so many bytes of the body, and its descriptors' bytes.
+abbrev pub bodied : Header → ℕ → (descriptors : List ℕ) → Progress
+bodied h body ds = record { head = replicate Codes.HEADER-LEN 0; filled = Codes.HEADER-LEN; header = h; body = body; descriptors = ds }
 
 abbrev pub linkWithProgress : Progress → Link → Link
 linkWithProgress p k = record { phase = k .phase; devid = k .devid; progress = p; counts = k .counts }
@@ -111,13 +119,16 @@ endedLink k pending =
 
 -- ## What the view hides
 
--- The header has its 48 places. While it grows, each behind those that are filled is 0, and nothing is read; once it is read, all are 0.
+-- The header has its 48 places. While it grows, each behind those that are filled is 0, and nothing is read; once it is read, all are 0. The
+-- descriptors have their 512 places, and each behind those that came is 0.
 pub record Padded (p : Progress) : Type 0 where
   pub size : length (p .head) ≡ Codes.HEADER-LEN
   pub fits : p .filled ≤ Codes.HEADER-LEN
   pub grows : p .filled < Codes.HEADER-LEN
       → (drop (p .filled) (p .head) ≡ replicate (Codes.HEADER-LEN - p .filled) 0) × (p .header ≡ blankHeader) × (p .body ≡ 0)
   pub read : p .filled ≡ Codes.HEADER-LEN → p .head ≡ replicate Codes.HEADER-LEN 0
+  pub places : length (p .descriptors) ≡ Limits.DESCRIPTORS-LEN
+  pub behind : let n = p .body - dataLen (p .header) in drop n (p .descriptors) ≡ replicate (Limits.DESCRIPTORS-LEN - n) 0
 
 -- The pending list has its 32 places, and each behind those in use is blank.
 abbrev pub Clean : Pending → Type 0

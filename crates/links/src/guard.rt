@@ -7,6 +7,7 @@ use limits::MAX_PENDING;
 use limits::MAX_TRANSFER;
 use limits::WAITING;
 use messages::message::body_len;
+use messages::message::data_len;
 use pending::counts::Counts;
 use wire::codes::BUSID_LEN;
 use wire::codes::HEADER_LEN;
@@ -47,11 +48,10 @@ fn attached_fits(p: Progress) -> bool
         return false;
     }
     let h = p.header;
-    let n = body_len(h);
-    if MAX_TRANSFER < n {
+    if (MAX_TRANSFER as usize) < data_len(h) {
         return false;
     }
-    p.body < n as usize
+    p.body < body_len(h)
 }
 
 // A request goes on while less than an import is in.

@@ -1,5 +1,6 @@
 // The link to the client: its phase, its device, the message in progress, the counts.
 use limits::CLOSED;
+use limits::DESCRIPTORS_LEN;
 use limits::LAST_TICKET;
 use messages::message::Header;
 use messages::message::blank_header;
@@ -8,14 +9,15 @@ use wire::codes::HEADER_LEN;
 ghost use mathlib.Core.Path.{_≡_};
 ghost use Rattle.links.specs.Links.{noProgress, resting, plus, endedLink, freshLink};
 
-// The message in progress: the first filled bytes of its header; or, where they are all there, the header as read, and how many
-// bytes of its body came. What isn't in use is 0.
+// The message in progress: the first filled bytes of its header; or, where they are all there, the header as read, how many bytes of
+// its body came, and those of them that are descriptors' (its own copy: the work buffer is the caller's). What isn't in use is 0.
 #[repr(C)]
 pub struct Progress {
     pub head: [u8; HEADER_LEN],
     pub filled: usize,
     pub header: Header,
     pub body: usize,
+    pub descriptors: [u8; DESCRIPTORS_LEN],
 }
 
 // The link to the client: WAITING, ATTACHED or CLOSED; the devid of the device that is attached (64 bits, so that none
@@ -37,6 +39,7 @@ fn no_progress() -> Progress
         filled: 0,
         header: header,
         body: 0,
+        descriptors: [0u8; DESCRIPTORS_LEN],
     }
 }
 

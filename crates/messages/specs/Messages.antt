@@ -1,5 +1,5 @@
 -- What each message is made of (PROTOCOL.md, 4).
-use Prim.Native.Nat.{ℕ, zero, suc, _-_, _≤_, _<_}
+use Prim.Native.Nat.{ℕ, zero, suc, _+_, _-_, _*_, _≤_, _<_}
 use mathlib.Core.Path.{_≡_}
 use mathlib.Core.Bool.{cond}
 use mathlib.Core.List.{List, [], _∷_}
@@ -7,6 +7,7 @@ use mathlib.Core.Logic.{_⊎_}
 use lib.Dec.{eqb, ltb}
 use lib.ListN.{take, drop, getD, replicate}
 use Rattle.wire.specs.Codes
+use Rattle.limits.specs.Limits.{MAX-PACKETS}
 use Rattle.wire.specs.Fields.{u16, u32, pack, field}
 use Rattle.messages.specs.declared.request.Request.{Request}
 use Rattle.messages.specs.declared.message.Header.{Header}
@@ -79,9 +80,17 @@ blankHeader =
       dirty = 0;
     }
 
--- How many bytes follow the 48 of a submit: its data, where it is OUT.
+-- How many descriptors number_of_packets stands for: itself, 1 to 32, of an isochronous transfer; none of any other.
+abbrev pub isoCount : ℕ → ℕ
+isoCount number = cond (ltb MAX-PACKETS number) 0 number
+
+-- How many bytes of data follow the 48 of a submit: those of an OUT.
+abbrev pub dataLen : Header → ℕ
+dataLen h = cond (eqb (h .transfer .direction) Codes.DIR-OUT) (h .transfer .length) 0
+
+-- How many bytes follow the 48 of a submit: its data, then a descriptor for each packet.
 abbrev pub bodyLen : Header → ℕ
-bodyLen h = cond (eqb (h .transfer .direction) Codes.DIR-OUT) (h .transfer .length) 0
+bodyLen h = dataLen h + isoCount (h .transfer .packets) * Codes.DESCRIPTOR-LEN
 
 -- The seqnum of the submit that an unlink names stands where a submit has its flags.
 abbrev pub unlinkSeqnum : Header → ℕ
@@ -99,12 +108,12 @@ replyHead code status = pack (u16 Codes.VERSION ∷ u16 code ∷ u32 status ∷ 
 
 -- ## Written: replies to messages
 
--- USBIP_RET_SUBMIT: devid, direction and ep are 0, error_count too, and 8 zeros end it.
+-- USBIP_RET_SUBMIT: devid, direction and ep are 0, and 8 zeros end it.
 abbrev pub retSubmit : RetSubmit → List ℕ
 retSubmit r =
     pack
     (u32 Codes.RET-SUBMIT ∷ u32 (r .seqnum) ∷ u32 0 ∷ u32 0 ∷ u32 0 ∷
-    u32 (r .status) ∷ u32 (r .actual) ∷ u32 (r .start) ∷ u32 (r .packets) ∷ u32 0 ∷ u32 0 ∷ u32 0 ∷ [])
+    u32 (r .status) ∷ u32 (r .actual) ∷ u32 (r .start) ∷ u32 (r .packets) ∷ u32 (r .errors) ∷ u32 0 ∷ u32 0 ∷ [])
 
 -- USBIP_RET_UNLINK: the unlink's own seqnum, three zeros, the status, 24 zeros.
 abbrev pub retUnlink : RetUnlink → List ℕ

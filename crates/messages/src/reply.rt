@@ -14,13 +14,15 @@ ghost use Rattle.ground.specs.Lists.{joined};
 ghost use Rattle.messages.specs.Messages.{replyHead, retSubmit, retUnlink};
 ghost use Rattle.ground.specs.Writing.{Wrote};
 
-// The fields of a USBIP_RET_SUBMIT that aren't 0: actual is actual_length, start start_frame, packets number_of_packets.
+// The fields of a USBIP_RET_SUBMIT that aren't 0: actual is actual_length, start start_frame, packets number_of_packets, errors
+// error_count.
 pub struct RetSubmit {
     pub seqnum: u32,
     pub status: u32,
     pub actual: u32,
     pub start: u32,
     pub packets: u32,
+    pub errors: u32,
 }
 
 // The fields of a USBIP_RET_UNLINK that aren't 0.
@@ -74,7 +76,7 @@ pub fn write_ret_submit(out: &mut [u8], r: RetSubmit) -> usize
         r.actual,
         r.start,
         r.packets,
-        0,
+        r.errors,
         0,
         0,
     ];

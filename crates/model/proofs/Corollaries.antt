@@ -1,7 +1,6 @@
 -- The corollaries of the claim about every list of calls.
-use Prim.Native.Nat.{ℕ, zero, suc, _+_, _-_, _≤_}
+use Prim.Native.Nat.{ℕ, zero, suc, _+_, _-_, _*_, _≤_}
 use native.Mathlib.Omega.{arith}
-use native.Mathlib.Nat.{add-sub-cancel-left}
 use mathlib.Core.Path.{_≡_, refl, sym, ap, subst, _∙_}
 use mathlib.Core.Bool.{Bool, true, false, cond, true≢false}
 use mathlib.Core.List.{List, [], _∷_, _++_, append-nil, append-assoc, List·Memᴰ, List·Memᴰ·not-nil, List·Memᴰ·cases-cons}
@@ -9,7 +8,7 @@ use mathlib.Core.Logic.{_⊎_, inl, inr, ⊎-elim}
 use mathlib.Core.Option.{some}
 use lib.Dec.{eqb}
 use lib.ListN.{length, take, drop, getD, length-append, take-append-drop}
-use lib.Seq.{length-take-le, take-all, take-at, take-take, take-append-le, take-append-add, append-snoc}
+use lib.Seq.{length-take-le, take-all, take-at, drop-at, take-take, take-append-le, take-append-add, append-snoc}
 use borrow.Author.Tests.{eq-eqb, ne-eqb}
 use Rattle.wire.specs.Codes
 use Rattle.messages.specs.Messages.{requestOf, busidOf, headerOf}
@@ -21,6 +20,7 @@ use Rattle.tables.proofs.Good.{good-iff}
 use Rattle.lookup.specs.Lookup.{FirstDevice, devidOf}
 use Rattle.transmit.specs.Part.{partOf, Sends}
 use Rattle.transmit.proofs.Whole.{sent-whole}
+use Rattle.descriptors.proofs.Laws.{descriptors-length}
 use Rattle.pending.specs.Pending.{ticketOf, tickets}
 use Rattle.pending.specs.declared.urb.Urb.{Urb}
 use Rattle.pending.proofs.Halving.{ticket-settled, ticket-there, ticket-nowhere}
@@ -33,12 +33,14 @@ use Rattle.ground.proofs.Match.{gives, clear, not-clear, one-answer}
 use Rattle.model.specs.State.{Sess, unlinked}
 use Rattle.model.specs.Answers.{Outcome, refused, done, Returned, Event, hungry, list, import, submit, answer, unlink, break, isHungry}
 use Rattle.model.specs.Judging.{urbOf, grow, judge}
-use Rattle.model.specs.Acts.{between, after, Buffers, put, writeReply, feedTestsOf, refusedFeed, feedOf, Completion, completeOf, closeOf, Open, openOf}
+use Rattle.model.specs.Acts.{between, after, Buffers, put, writeReply, feedTestsOf, refusedFeed, feedOf, resultsIn, Completion, completeOf}
+use Rattle.model.specs.Acts.{closeOf, Open, openOf}
 use Rattle.model.specs.Book.{Call, feed, complete, close, Entry, fed, completed, closing, Book, opened, Item, item, pending, over, keep, pendingOf}
 use Rattle.model.specs.Book.{NonePending}
 use Rattle.model.specs.Cut.{Feeding}
 use Rattle.model.specs.Claims.{entryOf, nextOf, header, messageLen, feedRowsBy, completionRowsBy, closeRowsBy, headerRowsBy, submitRowsBy, RightRequest}
-use Rattle.model.specs.Claims.{RightMessage, byPhase, RightFeed, headerFor, RightComplete, Right, Counted, Agrees, Grown, Moves, consumedFor, Stays}
+use Rattle.model.specs.Claims.{descriptorsAt, RightMessage, byPhase, RightFeed, headerFor, descriptorsFor, RightComplete, Right, Counted}
+use Rattle.model.specs.Claims.{Agrees, Grown, Moves, consumedFor, Stays}
 use Rattle.model.specs.Claims.{AttachesBy, Attaches, Holds}
 use Rattle.model.specs.Corollaries.{sessionAfter, bookAfter, sessionFrom, bookFrom, OpenGives, OpenIff, ByTable, RefusedIff, TicketSought, TicketFound}
 use Rattle.model.specs.Corollaries.{RefusedLate, LateTicket, Ended, EndedTicket, CancelledTicket, Sent, CompletionSent, AttachedTo, Ready, Verdict}
@@ -163,16 +165,20 @@ late-ticket t cs c h = late (sessionFrom t cs) (bookFrom t cs) c (right-from t c
 
 -- ## Sending
 
--- what goes out, by what the header starts with
-sends-front : (h bytes payload : List ℕ) (n : ℕ) → take Codes.HEADER-LEN h ≡ bytes → Codes.HEADER-LEN ≤ length h → n ≤ length payload
-    → Sends (partOf h payload n) (bytes ++ take n payload) (Codes.HEADER-LEN + n)
-sends-front h bytes payload n e l f =
-    subst (λ (x : List ℕ). Sends (partOf h payload n) (x ++ take n payload) (Codes.HEADER-LEN + n)) e (sent-whole h payload n l f)
+-- what goes out, by what the header buffer starts with: 48 bytes, and p descriptors
+module _ (h bytes tail : List ℕ) (p : ℕ) (long : Codes.HEADER-LEN + p * Codes.DESCRIPTOR-LEN ≤ length h) (front : take Codes.HEADER-LEN h ≡ bytes)
+    (back : take (p * Codes.DESCRIPTOR-LEN) (drop Codes.HEADER-LEN h) ≡ tail) where
+  sends-front : (payload : List ℕ) (n : ℕ) → n ≤ length payload
+      → Sends (partOf h payload n p) (bytes ++ take n payload ++ tail) (Codes.HEADER-LEN + n + p * Codes.DESCRIPTOR-LEN)
+  sends-front payload n f =
+      let path : take Codes.HEADER-LEN h ++ take n payload ++ take (p * Codes.DESCRIPTOR-LEN) (drop Codes.HEADER-LEN h) ≡ bytes ++ take n payload ++ tail =
+      λ i. front i ++ take n payload ++ back i in
+      subst (λ (x : List ℕ). Sends (partOf h payload n p) x (Codes.HEADER-LEN + n + p * Codes.DESCRIPTOR-LEN)) path (sent-whole h payload n p long f)
 
-sends-bare : (h bytes payload : List ℕ) → take Codes.HEADER-LEN h ≡ bytes → Codes.HEADER-LEN ≤ length h
-    → Sends (partOf h payload 0) bytes Codes.HEADER-LEN
-sends-bare h bytes payload e l =
-    subst (λ (x : List ℕ). Sends (partOf h payload 0) x Codes.HEADER-LEN) (append-nil bytes) (sends-front h bytes payload 0 e l (omega arith))
+  sends-bare : (payload : List ℕ) → Sends (partOf h payload 0 p) (bytes ++ tail) (Codes.HEADER-LEN + p * Codes.DESCRIPTOR-LEN)
+  sends-bare payload =
+      subst (λ (x : List ℕ). Sends (partOf h payload 0 p) (x ++ tail) (Codes.HEADER-LEN + p * Codes.DESCRIPTOR-LEN)) (append-nil bytes)
+      (sends-front payload 0 (omega arith))
 
 -- the header of an accepted completion, sent
 sent : (s : Sess) (b : Book) (c : Completion) (r : Returned) → RightComplete s b c → completeOf s c .answer ≡ done r
@@ -183,11 +189,17 @@ sent s b c r right e =
     let u = a .1 .0 in
     let d = u .transfer .direction in
     let h = completeOf s c .header in
-    let rest = drop Codes.HEADER-LEN (c .header) in
-    let room : Codes.HEADER-LEN ≤ length (c .header) = not-less (length (c .header)) Codes.HEADER-LEN (y .1 .0) in
     let bytes = headerFor u c (r .status) in
-    let long : Codes.HEADER-LEN ≤ length h = rw (a .1 .5) (omega (arith, length-append bytes rest)) in
-    let front : take Codes.HEADER-LEN h ≡ bytes = rw (a .1 .5) (take-at bytes rest Codes.HEADER-LEN refl) in
+    let tail = descriptorsFor u c in
+    let p = length (resultsIn (c .kind)) in
+    let rest = drop (length (bytes ++ tail)) (c .header) in
+    let size : length tail ≡ p * Codes.DESCRIPTOR-LEN = descriptors-length (u .iso) (resultsIn (c .kind)) in
+    let parts : h ≡ bytes ++ (tail ++ rest) = a .1 .5 ∙ append-assoc bytes tail rest in
+    let long : Codes.HEADER-LEN + p * Codes.DESCRIPTOR-LEN ≤ length h =
+    rw parts (omega (arith, length-append bytes (tail ++ rest), length-append tail rest, size)) in
+    let front : take Codes.HEADER-LEN h ≡ bytes = rw parts (take-at bytes (tail ++ rest) Codes.HEADER-LEN refl) in
+    let back : take (p * Codes.DESCRIPTOR-LEN) (drop Codes.HEADER-LEN h) ≡ tail =
+    rw (parts, drop-at bytes (tail ++ rest) Codes.HEADER-LEN refl) (take-at tail rest (p * Codes.DESCRIPTOR-LEN) size) in
     record {
       urb = u;
       held = a .1 .1;
@@ -195,14 +207,14 @@ sent s b c r right e =
       status = a .1 .4;
       reads =
           λ i.
-          let n : r .wire - Codes.HEADER-LEN ≡ c .actual = rw (a .1 .3, eq-eqb d Codes.DIR-IN i) (add-sub-cancel-left Codes.HEADER-LEN (c .actual)) in
+          let n : r .wire - Codes.HEADER-LEN - p * Codes.DESCRIPTOR-LEN ≡ c .actual = rw (a .1 .3, eq-eqb d Codes.DIR-IN i) (omega arith) in
           let f : c .actual ≤ length (c .payload) =
           not-less (length (c .payload)) (c .actual) (λ k. y .1 .1 .1 .1 .1 .0 (u, a .1 .1, a .1 .2, (i, k))) in
-          rw n (sends-front h bytes (c .payload) (c .actual) front long f);
+          rw n (sends-front h bytes tail p long front back (c .payload) (c .actual) f);
       writes =
           λ i.
-          let n : r .wire - Codes.HEADER-LEN ≡ 0 = rw (a .1 .3, ne-eqb d Codes.DIR-IN i) in
-          rw n (sends-bare h bytes (c .payload) front long);
+          let n : r .wire - Codes.HEADER-LEN - p * Codes.DESCRIPTOR-LEN ≡ 0 = rw (a .1 .3, ne-eqb d Codes.DIR-IN i) (omega arith) in
+          rw n (sends-bare h bytes tail p long front back (c .payload));
     }
 
 pub completion-sent : CompletionSent
@@ -476,9 +488,10 @@ module _ (devid time : ℕ) (is : List Item) (m : List ℕ) where
   faults = headerRowsBy devid is (header m)
 
   abbrev statuses : List (Row ℕ)
-  statuses = submitRowsBy devid is (header m)
+  statuses = submitRowsBy devid is m
 
-  accepts : (u : Urb) (k : ℕ) → k ≡ length m → Clear faults → Clear statuses → u ≡ urbOf (suc (length is)) time (headerOf (header m))
+  accepts : (u : Urb) (k : ℕ) → k ≡ length m → Clear faults → Clear statuses
+      → u ≡ urbOf (suc (length is)) time (headerOf (header m)) (drop (descriptorsAt (header m)) m)
       → Verdict devid time is m (done (submit u)) k
   accepts u k l y z e =
       record {
@@ -533,11 +546,11 @@ module _ (devid time : ℕ) (is : List Item) (m rest : List ℕ) (command : head
   verdict (import st) k c r = absurd r
   verdict (submit u) k c r =
       let l : k ≡ length m = omega (arith, c .1, size-same) in
-      let e = taken-same m rest submit-long k (omega arith) in
+      let e = take-at m rest k (sym l) in
       accepts devid time is m u k l (rw e at (r .1)) (rw e at (r .3)) (rw e at (r .4))
   verdict (answer q st) k c r =
       let l : k ≡ length m = omega (arith, c .1, size-same) in
-      let e = taken-same m rest submit-long k (omega arith) in
+      let e = take-at m rest k (sym l) in
       answers devid time is m q st k l (rw e at (r .1)) (rw e at (r .3)) (rw e at (r .4))
   verdict (unlink q st o) k c r =
       let l : k ≡ length m = omega (arith, c .1, size-same) in

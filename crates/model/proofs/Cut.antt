@@ -34,7 +34,7 @@ lawful time = record { silent = λ s. is-hungry (judge time s); hungers = refl; 
 
 put-length : (m : Message) (x : ℕ) (work : List ℕ) → length (dataPut m x work) ≡ length work
 put-length (partly bytes) x work = refl
-put-length (headed h body) x work = length-set work body x
+put-length (headed h body ds) x work = length-set work body x
 
 put-enough : (s : Sess) (x : ℕ) (b : Buffers) → Enough b → Enough (put s x b)
 unfolding put

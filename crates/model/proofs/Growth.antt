@@ -2,12 +2,14 @@
 use Prim.Native.Nat.{ℕ, suc, _+_, _-_, _≤_, _<_}
 use native.Mathlib.Omega.{arith}
 use mathlib.Core.Path.{_≡_, refl, sym, ap, _∙_}
+use mathlib.Core.Bool.{Bool, true, false, cond}
 use mathlib.Core.List.{List, [], _∷_, _++_, append-nil}
+use lib.Dec.{ltb}
 use borrow.Author.Tests.{lt-ltb, le-ltb, ltb-true, ltb-false}
 use lib.ListN.{length, drop, set, length-append, drop-of-length-le}
-use lib.Seq.{sets, append-snoc}
+use lib.Seq.{sets, append-snoc, drop-nil}
 use Rattle.wire.specs.Codes
-use Rattle.messages.specs.Messages.{headerOf}
+use Rattle.messages.specs.Messages.{headerOf, dataLen}
 use Rattle.messages.specs.declared.message.Header.{Header}
 use Rattle.ground.specs.Tests.{pick, by-test}
 use Rattle.model.specs.State.{Message, partly, headed, Sess, withLink, withMessage, room, place}
@@ -38,7 +40,7 @@ module _ (bytes : List ℕ) (x : ℕ) where
   unfolding pick
   grown-in h = rw (lt-ltb (length (bytes ++ (x ∷ []))) Codes.HEADER-LEN (rw length-append (omega arith)))
 
-  pub grown-whole : Codes.HEADER-LEN ≤ suc (length bytes) → grownBy (partly bytes) x ≡ headed (headerOf (bytes ++ (x ∷ []))) 0
+  pub grown-whole : Codes.HEADER-LEN ≤ suc (length bytes) → grownBy (partly bytes) x ≡ headed (headerOf (bytes ++ (x ∷ []))) 0 []
   unfolding pick
   grown-whole h = rw (le-ltb (length (bytes ++ (x ∷ []))) Codes.HEADER-LEN (rw length-append (omega arith)))
 
@@ -66,20 +68,40 @@ grow-in bytes (x ∷ xs) s e h =
 
 -- they just fill it
 pub grow-whole : (bytes xs : List ℕ) (s : Sess) → s .link .message ≡ partly bytes → 0 < length xs → length bytes + length xs ≡ Codes.HEADER-LEN
-    → stepAll grow s xs ≡ holding s (headed (headerOf (bytes ++ xs)) 0)
+    → stepAll grow s xs ≡ holding s (headed (headerOf (bytes ++ xs)) 0 [])
 grow-whole bytes [] s e p h = absurd (omega arith)
 grow-whole bytes (x ∷ []) s e p h = rw (grow-is s x e, grown-whole bytes x (omega arith))
 grow-whole bytes (x ∷ y ∷ xs) s e p h =
     let m = bytes ++ (x ∷ []) in
     rw (grow-is s x e, grown-in bytes x (omega arith))
     (grow-whole m (y ∷ xs) (holding s (partly m)) refl (omega arith) (rw length-append (omega arith))
-    ∙ holding-path s (ap (λ (m : List ℕ). headed (headerOf m) 0) (append-snoc bytes x (y ∷ xs))))
+    ∙ holding-path s (ap (λ (m : List ℕ). headed (headerOf m) 0 []) (append-snoc bytes x (y ∷ xs))))
 
--- it was whole before
-pub grow-body : (h : Header) (n : ℕ) (xs : List ℕ) (s : Sess) → s .link .message ≡ headed h n → stepAll grow s xs ≡ holding s (headed h (n + length xs))
-grow-body h n [] s e = holding-path s (e ∙ ap (headed h) (omega arith))
-grow-body h n (x ∷ xs) s e =
-    rw (grow-is s x e) (grow-body h (suc n) xs (holding s (headed h (suc n))) refl ∙ holding-path s (ap (headed h) (omega arith)))
+-- a byte of the body is of the data, or of the descriptors, as those behind it are
+kept : (size n x : ℕ) (ds xs : List ℕ) (c : Bool) → ltb n size ≡ c → cond c ds (ds ++ (x ∷ [])) ++ drop (size - suc n) xs ≡ ds ++ drop (size - n) (x ∷ xs)
+kept size n x ds xs true h =
+    let l = ltb-true n size h in
+    let e : size - n ≡ suc (size - suc n) = omega arith in
+    rw e
+kept size n x ds xs false h =
+    let l = ltb-false n size h in
+    let e : size - n ≡ 0 = omega arith in
+    let f : size - suc n ≡ 0 = omega arith in
+    rw (e, f) (append-snoc ds x xs)
+
+headed-path : (h : Header) {n m : ℕ} {ds es : List ℕ} → n ≡ m → ds ≡ es → headed h n ds ≡ headed h m es
+headed-path h p q = λ i. headed h (p i) (q i)
+
+-- it was whole before: those past the data are the descriptors'
+pub grow-body : (h : Header) (n : ℕ) (ds xs : List ℕ) (s : Sess) → s .link .message ≡ headed h n ds
+    → stepAll grow s xs ≡ holding s (headed h (n + length xs) (ds ++ drop (dataLen h - n) xs))
+grow-body h n ds [] s e =
+    holding-path s (e ∙ headed-path h (omega arith) (sym (rw (drop-nil {A = ℕ} (dataLen h - n)) (append-nil ds))))
+grow-body h n ds (x ∷ xs) s e =
+    let es = cond (ltb n (dataLen h)) ds (ds ++ (x ∷ [])) in
+    rw (grow-is s x e)
+    (grow-body h (suc n) es xs (holding s (headed h (suc n) es)) refl
+    ∙ holding-path s (headed-path h (omega arith) (kept (dataLen h) n x ds xs (ltb n (dataLen h)) refl)))
 
 -- so many of them are the body's
 pub grow-place : (xs : List ℕ) (s : Sess)
@@ -88,13 +110,13 @@ grow-place xs s = at xs (s .link .message) s refl
   where
     at : (xs : List ℕ) (m : Message) (s : Sess) → s .link .message ≡ m → place (stepAll grow s xs .link .message) ≡ place m + length (drop (room m) xs)
     at [] (partly bytes) s e = rw e refl
-    at [] (headed h n) s e = rw e (omega arith)
+    at [] (headed h n ds) s e = rw e (omega arith)
     at (x ∷ xs) (partly bytes) s e =
         let m = grownBy (partly bytes) x in
         ap (λ (s : Sess). place (stepAll grow s xs .link .message)) (grow-is s x e) ∙ at xs m (holding s m) refl ∙ rw (grown-place bytes x, grown-room bytes x)
-    at (x ∷ xs) (headed h n) s e =
-        ap (λ (s : Sess). place (stepAll grow s xs .link .message)) (grow-is s x e)
-        ∙ at xs (headed h (suc n)) (holding s (headed h (suc n))) refl ∙ omega arith
+    at (x ∷ xs) (headed h n ds) s e =
+        let m = grownBy (headed h n ds) x in
+        ap (λ (s : Sess). place (stepAll grow s xs .link .message)) (grow-is s x e) ∙ at xs m (holding s m) refl ∙ omega arith
 
 -- ## What they do to the buffers
 
@@ -105,12 +127,13 @@ put-all xs b s = at xs b (s .link .message) s refl
     at : (xs : List ℕ) (b : Buffers) (m : Message) (s : Sess) → s .link .message ≡ m
         → putAll grow put s xs b ≡ lent (sets (b .work) (place m) (drop (room m) xs)) (b .reply)
     at [] b (partly bytes) s e = refl
-    at [] b (headed h n) s e = refl
+    at [] b (headed h n ds) s e = refl
     at (x ∷ xs) b (partly bytes) s e =
         let m = grownBy (partly bytes) x in
         rw (put-is s x b e, grow-is s x e) (at xs b m (holding s m) refl ∙ rw (grown-place bytes x, grown-room bytes x))
-    at (x ∷ xs) b (headed h n) s e =
-        rw (put-is s x b e, grow-is s x e) (at xs (lent (set (b .work) n x) (b .reply)) (headed h (suc n)) (holding s (headed h (suc n))) refl)
+    at (x ∷ xs) b (headed h n ds) s e =
+        let m = grownBy (headed h n ds) x in
+        rw (put-is s x b e, grow-is s x e) (at xs (lent (set (b .work) n x) (b .reply)) m (holding s m) refl)
 
 module _ (bytes xs : List ℕ) (s : Sess) (b : Buffers) (e : s .link .message ≡ partly bytes) where
   pub put-in : length bytes + length xs < Codes.HEADER-LEN → putAll grow put s xs b ≡ b
@@ -119,6 +142,6 @@ module _ (bytes xs : List ℕ) (s : Sess) (b : Buffers) (e : s .link .message �
   pub put-whole : 0 < length xs → length bytes + length xs ≡ Codes.HEADER-LEN → putAll grow put s xs b ≡ b
   put-whole p h = put-all xs b s ∙ rw (e, drop-of-length-le xs {i = room (partly bytes)} (omega arith))
 
-pub put-body : (h : Header) (n : ℕ) (xs : List ℕ) (s : Sess) (b : Buffers) → s .link .message ≡ headed h n
+pub put-body : (h : Header) (n : ℕ) (ds xs : List ℕ) (s : Sess) (b : Buffers) → s .link .message ≡ headed h n ds
     → putAll grow put s xs b ≡ lent (sets (b .work) n xs) (b .reply)
-put-body h n xs s b e = put-all xs b s ∙ rw e
+put-body h n ds xs s b e = put-all xs b s ∙ rw e

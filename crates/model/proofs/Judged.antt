@@ -7,7 +7,7 @@ use mathlib.Core.List.{List, [], _∷_, _++_, map}
 use mathlib.Core.Bool.{false}
 use mathlib.Core.Option.{Option, none, some}
 use lib.Dec.{eqb}
-use lib.ListN.{length, length-take}
+use lib.ListN.{length, drop, length-take, drop-of-length-le}
 use lib.Seq.{take-all, take-append-le}
 use borrow.Author.Tests.{eqb-true, eqb-false, ltb-true, ltb-false}
 use Rattle.wire.specs.Codes
@@ -38,8 +38,9 @@ use Rattle.model.specs.Judging.{submitTestsOf, submitted, submitting, un
 use Rattle.model.specs.Judging.{judge}
 use Rattle.model.specs.Book.{Book, Item, took, effectOf, pendingOf}
 use Rattle.model.specs.Claims.{header, messageLen, requestRowsBy, headerRowsBy, submitRowsBy, RightRequest, Placed, RightMessage, byPhase}
-use Rattle.model.specs.Claims.{Apart}
+use Rattle.model.specs.Claims.{descriptorsAt, Apart}
 use Rattle.model.proofs.Facts.{mem-to, mem-from, mem-found, apart-of}
+use Rattle.model.proofs.Packets.{counted-as, carries-packets}
 use Rattle.model.proofs.Tables.{header-match, submit-match}
 use Rattle.model.proofs.Steps.{messageIn, heading, bodied, bytes-in, short, one-more, sessionOf, Fit, Allowed}
 
@@ -224,6 +225,10 @@ module _ (t : Table) (phase devid time : ℕ) (b : Book) (f : Fit phase b) (away
   abbrev head : Header
   head = headerOf (header (b .part))
 
+  -- what came behind its data
+  abbrev tail : List ℕ
+  tail = drop (descriptorsAt (header (b .part))) (b .part)
+
   abbrev Said : Event → Type 0
   Said e = RightMessage devid time (b .items) (b .part) e × Allowed phase b (effectOf e) × (e ≡ hungry → Going phase b)
 
@@ -232,31 +237,39 @@ module _ (t : Table) (phase devid time : ℕ) (b : Book) (f : Fit phase b) (away
   proceeds g = record { request = λ w l. absurd (away w); message = λ w l. g l }
 
   -- all of a submit's bytes are in
-  submitted-right : GoodHeader b → length (b .part) ≡ messageLen (header (b .part)) → Said (submitted time here head)
+  submitted-right : GoodHeader b → length (b .part) ≡ messageLen (header (b .part)) → Said (submitted time here head tail)
   unfolding submitted
   submitted-right g l =
       let d = header (b .part) in
-      let ts = submitTestsOf head here in
-      let m = submit-match here b d refl refl in
+      let ts = submitTestsOf head tail here in
+      let m = submit-match here b (b .part) refl refl in
       by-first Said (first ts)
-      (λ n h. ((l, g .0 devid, g .1, gives ts (submitRowsBy devid (b .items) d) m n h, refl), tt, λ p. differ (cc)))
+      (λ n h. ((l, g .0 devid, g .1, gives ts (submitRowsBy devid (b .items) (b .part)) m n h, refl), tt, λ p. differ (cc)))
       λ h.
-      let y = clear ts (submitRowsBy devid (b .items) d) m h in (
-        (l, g .0 devid, g .1, y, refl, (refl, refl, refl, refl, refl, refl, refl, refl, refl, refl, refl)),
+      let y = clear ts (submitRowsBy devid (b .items) (b .part)) m h in (
+        (
+          l,
+          g .0 devid,
+          g .1,
+          y,
+          refl,
+          (refl, refl, refl, refl, refl, refl, refl, refl, refl, refl, refl),
+          carries-packets (suc (length (b .items))) time (b .part),
+        ),
         (refl, free b d devid (g .0 devid) (g .1), o, away),
         λ p. differ (cc),
       )
 
   submitting-right : GoodHeader b → Codes.HEADER-LEN ≤ length (b .part) → length (b .part) ≤ messageLen (header (b .part))
-      → Said (submitting time here head (length (b .part) - Codes.HEADER-LEN))
+      → Said (submitting time here head (length (b .part) - Codes.HEADER-LEN) tail)
   unfolding submitting
   submitting-right g l k =
       let body = length (b .part) - Codes.HEADER-LEN in
       by-test Said
       (λ h.
-      let s : length (b .part) < messageLen (header (b .part)) = omega (arith, ltb-true body (bodyLen head) h) in
+      let s : length (b .part) < messageLen (header (b .part)) = omega (arith, ltb-true body (bodyLen head) h, counted-as (header (b .part))) in
       (inr (l, g .0 devid, g .1, s), tt, λ _. proceeds (λ _. (g, s))))
-      λ h. submitted-right g (omega (arith, ltb-false body (bodyLen head) h))
+      λ h. submitted-right g (omega (arith, ltb-false body (bodyLen head) h, counted-as (header (b .part))))
 
   unlinks-right : (v : Option Urb) → findBy seqnumOf (unlinkSeqnum head) (pendingOf (b .items)) ≡ v
       → length (b .part) ≡ Codes.HEADER-LEN → Clear (headerRowsBy devid (b .items) (header (b .part))) → head .command ≡ Codes.CMD-UNLINK
@@ -284,11 +297,12 @@ module _ (t : Table) (phase devid time : ℕ) (b : Book) (f : Fit phase b) (away
       by-test Said
       (λ k.
       let e = eqb-true (head .command) Codes.CMD-SUBMIT k in
-      subst (λ (n : ℕ). Said (submitting time here head n)) bare
-      (submitting-right ((λ i. any-devid (b .items) d devid i e y), e) (omega arith) (omega arith)))
+      let none : tail ≡ [] = drop-of-length-le (b .part) {i = descriptorsAt d} (omega arith) in
+      let s = submitting-right ((λ i. any-devid (b .items) d devid i e y), e) (omega arith) (omega arith) in
+      subst (λ (ds : List ℕ). Said (submitting time here head 0 ds)) none (subst (λ (n : ℕ). Said (submitting time here head n tail)) bare s))
       λ k. unlinks-right _ refl l y (second (head .command) Codes.CMD-SUBMIT Codes.CMD-UNLINK (y .0) (eqb-false _ _ k))
 
-  bodied-right : Codes.HEADER-LEN ≤ length (b .part) → Said (message time here (headed head (length (b .part) - Codes.HEADER-LEN)))
+  bodied-right : Codes.HEADER-LEN ≤ length (b .part) → Said (message time here (headed head (length (b .part) - Codes.HEADER-LEN) tail))
   unfolding message
   bodied-right l =
       let body = length (b .part) - Codes.HEADER-LEN in

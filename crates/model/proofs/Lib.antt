@@ -1,5 +1,6 @@
 -- The proofs of the claims about the session.
 pub mod Facts
+pub mod Packets
 pub mod Tables
 pub mod Steps
 pub mod Judged

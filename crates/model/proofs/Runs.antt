@@ -1,5 +1,5 @@
 -- After every list of calls the session is the one that the book describes, and each answer is right by the book before it.
-use Prim.Native.Nat.{ℕ, suc, _<_}
+use Prim.Native.Nat.{ℕ, suc, _≤_, _<_}
 use native.Mathlib.Omega.{arith}
 use mathlib.Core.Path.{_≡_, refl, sym, ap, subst, _∙_}
 use mathlib.Core.Logic.{_⊎_, inl, inr, ⊎-elim}
@@ -7,13 +7,16 @@ use mathlib.Core.List.{List, [], _∷_, _++_, append-nil}
 use mathlib.Core.Bool.{Bool, true, false, cond, not, true≢false}
 use mathlib.Core.Option.{Option, none, some}
 use lib.Dec.{eqb}
-use lib.ListN.{length, take}
+use lib.ListN.{length, take, drop}
 use lib.Seq.{sets, append-snoc}
 use borrow.Author.Tests.{eqb-true, eqb-false}
 use Rattle.wire.specs.Codes
 use Rattle.ground.specs.Writing.{over}
-use Rattle.messages.specs.Messages.{busidOf, unlinkSeqnum}
+use Rattle.messages.specs.Messages.{busidOf, unlinkSeqnum, isoCount}
 use Rattle.messages.proofs.Headers.{unlink-seqnum}
+use Rattle.packets.proofs.Reading.{packets-length}
+use Rattle.results.specs.Results.{errors}
+use Rattle.replies.specs.Replies.{submitReply}
 use Rattle.exports.specs.Devices.{devicesOf}
 use Rattle.exports.specs.declared.device.Table.{Table}
 use Rattle.lookup.specs.Lookup.{FirstDevice, devidOf}
@@ -32,19 +35,23 @@ use Rattle.model.specs.Machine.{Fed}
 use Rattle.model.specs.State.{Sess, headerIn, returned, unlinked}
 use Rattle.model.specs.Answers.{Outcome, refused, done, Returned, Event, hungry, list, import, submit, answer, unlink, break, isHungry}
 use Rattle.model.specs.Judging.{grow, judge}
-use Rattle.model.specs.Acts.{settles, between, deviceOf, afterUnlink, after, importBytes, replyFor, replyTo, Buffers, put, feedBytes, feedTestsOf}
-use Rattle.model.specs.Acts.{refusedFeed, doneFeed, feedOf, Completion, theTransfer, namedPlace, named, completionTestsOf, Complete, refusedCompletion}
+use Rattle.model.specs.Acts.{settles, between, deviceOf, afterUnlink, after, importBytes, retFor, replyTo, Buffers, put, feedBytes, feedTestsOf}
+use Rattle.model.specs.Acts.{refusedFeed, doneFeed, feedOf, resultsIn, Completion, theTransfer, thePackets, namedPlace, named}
+use Rattle.model.specs.Acts.{completionTestsOf, Complete, refusedCompletion}
 use Rattle.model.specs.Acts.{completeOf, Close, closeOf, noTable, fresh, Open, openOf}
 use Rattle.model.specs.Book.{Call, feed, complete, close, Entry, fed, completed, closing, Item, Book, opened, withPart, took, mark, Effect, add, settle}
 use Rattle.model.specs.Book.{drop-all, shut, nothing, apply, removal, effectOf, keepEvent, keep, pendingOf, Pending}
 use Rattle.model.specs.Cut.{stepAll, outcomeReply, replied, written}
 use Rattle.model.specs.Claims.{entryOf, nextOf, header, feedRowsBy, completionRowsBy, closeRowsBy, headerRowsBy, RightRequest, RightMessage, byPhase}
-use Rattle.model.specs.Claims.{Replies, placeOf, dataIn, SentAs, headerFor, Right, Agrees, Grown, Moves, consumedFor, Progresses, AttachesBy}
-use Rattle.model.specs.Claims.{Attaches, Holds, EveryRun}
+use Rattle.model.specs.Claims.{Replies, placeOf, bodyIn, SentAs, headerFor, descriptorsFor, Right, Agrees, Grown, Moves, consumedFor}
+use Rattle.model.specs.Claims.{Progresses, AttachesBy}
+use Rattle.model.specs.Claims.{descriptorsAt, descriptorCount, Attaches, Holds, EveryRun}
 use Rattle.ground.proofs.Cases.{differ, never-true}
 use Rattle.model.proofs.Facts.{sum, grown-refl, tickets-rise, mem-to, mem-from, only-found, pending-before}
+use Rattle.model.proofs.Packets.{fits-many}
 use Rattle.model.proofs.Tables.{feed-match, named-first, completion-match, sent-as}
-use Rattle.model.proofs.Steps.{messageIn, heading, bodied, header-in, place-in, room-in, short, sessionOf, grow-is, Fit, fit-part, Allowed, act}
+use Rattle.model.proofs.Steps.{messageIn, heading, bodied, header-in, packets-in, place-in, room-in, short, sessionOf, grow-is, Fit}
+use Rattle.model.proofs.Steps.{fit-part, Allowed, act}
 use Rattle.model.proofs.Steps.{phaseAfter, settles-first, step, act-is}
 use Rattle.model.proofs.Judged.{Going, came, Judged, looked-up, judge-right}
 use Rattle.model.proofs.Cut.{lawful}
@@ -266,11 +273,14 @@ module _ (t : Table) (phase devid time : ℕ) where
         (q .3)
 
     answer-is : (q st : ℕ) → RightAt b m (answer q st) → Replies t m (done (answer q st)) (reply-to (answer q st))
-    unfolding replyTo
+    unfolding replyTo submitReply
     answer-is q st r =
         let s = said (eqb phase Limits.WAITING) r in
-        let e = header-in m (omega (arith, s .0)) in
-        rw (e, s .4)
+        let l : Codes.HEADER-LEN ≤ length m = omega (arith, s .0) in
+        let e = header-in m l in
+        let p = packets-in m l in
+        let n = packets-length (descriptorCount (header m)) (drop (descriptorsAt (header m)) m) in
+        rw (e, p, n, s .4)
 
     reply-is : (o : Outcome Event) → ((e : Event) → o ≡ done e → RightAt b m e) → Replies t m o (outcomeReply (at (withPart m b)) o)
     unfolding replyTo
@@ -393,7 +403,7 @@ module _ (t : Table) (phase devid : ℕ) (b : Book) (f : Fit phase b) (g : Going
           refl,
         )
 
-    feed-work : let r = feedOf now′ lent p time in r .buffers .work ≡ sets (lent .work) (placeOf (b .part)) (dataIn (b .part) (take (r .consumed) p))
+    feed-work : let r = feedOf now′ lent p time in r .buffers .work ≡ sets (lent .work) (placeOf (b .part)) (bodyIn (b .part) (take (r .consumed) p))
     feed-work = untouched now′ lent p time .work ∙ rw (place-in (b .part), room-in (b .part))
 
   -- ## A completion
@@ -424,9 +434,9 @@ module _ (t : Table) (phase devid : ℕ) (b : Book) (f : Fit phase b) (g : Going
           × ((u : Urb)
           × Pending (b .items) u
           × (ticketOf u ≡ c .ticket)
-          × (a .wire ≡ wireLength (u .transfer .direction) (c .actual))
+          × (a .wire ≡ wireLength (u .transfer .direction) (c .actual) (length (resultsIn (c .kind))))
           × SentAs u c (a .status)
-          × (r .header ≡ over (headerFor u c (a .status)) (c .header)))
+          × (r .header ≡ over (headerFor u c (a .status) ++ descriptorsFor u c) (c .header)))
       pub left : Left t phase devid b (completed (c .ticket) (r .answer)) (r .next)
 
     abbrev tests : List (Test ℕ)
@@ -473,7 +483,22 @@ module _ (t : Table) (phase devid : ℕ) (b : Book) (f : Fit phase b) (g : Going
     abbrev answered : Option Urb → Returned
     answered o =
         let u = theTransfer o in
-        record { wire = wireLength (u .direction) (c .actual); status = statusSent u (c .status) (c .actual) }
+        record { wire = wireLength (u .direction) (c .actual) (isoCount (u .packets)); status = statusSent u (c .status) (c .actual) }
+
+    -- its results are as many as the packets of the URB
+    as-many : (u : Urb) → Pending (b .items) u → ticketOf u ≡ c .ticket → Clear (completionRowsBy b c)
+        → isoCount (u .transfer .packets) ≡ length (resultsIn (c .kind))
+    as-many u m k y = fits-many (c .kind) (c .actual) u (λ x. y .1 .1 .1 .1 .0 (inr (u, m, k, x)))
+
+    -- the header of its reply, and the descriptors behind it
+    replied-with : (u : Urb) (r : Returned) → held ≡ some u → answered held ≡ r
+        → let rs = resultsIn (c .kind) in
+        over (submitReply (retFor (theTransfer held) (answered held .status) (c .actual) (errors rs)) (thePackets held) rs) (c .header)
+        ≡ over (headerFor u c (r .status) ++ descriptorsFor u c) (c .header)
+    unfolding submitReply
+    replied-with u r p e =
+        let rs = resultsIn (c .kind) in
+        λ i. over (submitReply (retFor (theTransfer (p i)) (e i .status) (c .actual) (errors rs)) (thePackets (p i)) rs) (c .header)
 
     complete-holds : CompleteHolds (completeOf now′ c)
     unfolding completeOf
@@ -489,11 +514,11 @@ module _ (t : Table) (phase devid : ℕ) (b : Book) (f : Fit phase b) (g : Going
               λ r k.
               let e : answered held ≡ r = cc in
               let f : answered (some u) ≡ r = ap answered (sym (w .1)) ∙ e in
-              let long = ap (λ (z : Returned). z .wire) (sym f) in
+              let y = clear tests (completionRowsBy b c) match h in
+              let m = mem-to u (b .items) (q .1) in
+              let long = ap (λ (z : Returned). z .wire) (sym f) ∙ ap (wireLength (u .transfer .direction) (c .actual)) (as-many u m (q .0) y) in
               let sent = subst (λ (z : Returned). SentAs u c (z .status)) f (sent-as u c) in
-              let written : over (replyFor (theTransfer held) (answered held .status) (c .actual)) (c .header) ≡ over (headerFor u c (r .status)) (c .header) =
-              λ i. over (replyFor (theTransfer (w .1 i)) (e i .status) (c .actual)) (c .header) in
-              (clear tests (completionRowsBy b c) match h, (u, mem-to u (b .items) (q .1), q .0, long, sent, written));
+              (y, (u, m, q .0, long, sent, replied-with u r (w .1) e));
           left = complete-left u (answered held) (w .1);
         }
 

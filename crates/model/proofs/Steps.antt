@@ -6,11 +6,11 @@ use mathlib.Core.List.{List, [], _∷_, _++_, map}
 use mathlib.Core.Bool.{Bool, true, false, cond}
 use mathlib.Core.Option.{some}
 use lib.Dec.{eqb, ltb}
-use lib.ListN.{length, length-append}
-use lib.Seq.{take-all, take-append-le}
+use lib.ListN.{length, drop, length-append, drop-of-length-le}
+use lib.Seq.{take-all, take-append-le, drop-append-le}
 use borrow.Author.Tests.{ltb-true, ltb-false, lt-ltb, le-ltb}
 use Rattle.wire.specs.Codes
-use Rattle.messages.specs.Messages.{headerOf}
+use Rattle.messages.specs.Messages.{headerOf, dataLen}
 use Rattle.exports.specs.declared.device.Table.{Table}
 use Rattle.pending.specs.Pending.{ticketOf, seqnumOf, tickets, findBy, placeBy, without}
 use Rattle.pending.specs.declared.counts.Counts.{Counts}
@@ -19,25 +19,29 @@ use Rattle.pending.proofs.Finding.{find-some}
 use Rattle.pending.proofs.Without.{first-alone}
 use Rattle.limits.specs.Limits
 use Rattle.model.specs.State.{Message, partly, headed, Sess, withLink, withPend, withCounts, bytesIn, headerIn, room, place, End, returned}
-use Rattle.model.specs.State.{unlinked, dropped, ended}
+use Rattle.model.specs.State.{packetsIn, unlinked, dropped, ended}
 use Rattle.model.specs.Judging.{grownBy, grow}
 use Rattle.model.specs.Acts.{accepts, settles, shuts, drops}
 use Rattle.model.specs.Book.{Book, Item, item, pending, withPart, took, mark, markAll, pendingOf, sameEnd, count, Effect, add, settle, drop-all, shut}
 use Rattle.model.specs.Book.{nothing, apply}
-use Rattle.model.specs.Claims.{header, placeOf, Counted, Distinct, Apart, Grown, Settled, Emptied}
+use Rattle.model.specs.Claims.{header, descriptorsAt, sentPackets, placeOf, Counted, Distinct, Apart, Grown, Settled, Emptied}
 use Rattle.model.proofs.Facts.{pend-snoc, count-snoc, length-snoc, counted-snoc, pend-mark, length-mark, counted-mark, mark-one, marked, grown-refl}
 use Rattle.model.proofs.Facts.{grown-snoc, mem-to, distinct-without, distinct-snoc, tickets-rise, drop-all as all-dropped, AllDropped}
 use Rattle.model.proofs.Growth.{grown-in, grown-whole}
+use Rattle.model.proofs.Packets.{packets-are}
 
 -- ## The message in progress, by the bytes that came for it
 
 abbrev pub messageIn : List ℕ → Message
-messageIn m = cond (ltb (length m) Codes.HEADER-LEN) (partly m) (headed (headerOf (header m)) (length m - Codes.HEADER-LEN))
+messageIn m =
+    cond (ltb (length m) Codes.HEADER-LEN) (partly m)
+    (headed (headerOf (header m)) (length m - Codes.HEADER-LEN) (drop (descriptorsAt (header m)) m))
 
 pub heading : (m : List ℕ) → length m < Codes.HEADER-LEN → messageIn m ≡ partly m
 heading m h = rw (lt-ltb (length m) Codes.HEADER-LEN h)
 
-pub bodied : (m : List ℕ) → Codes.HEADER-LEN ≤ length m → messageIn m ≡ headed (headerOf (header m)) (length m - Codes.HEADER-LEN)
+pub bodied : (m : List ℕ) → Codes.HEADER-LEN ≤ length m
+    → messageIn m ≡ headed (headerOf (header m)) (length m - Codes.HEADER-LEN) (drop (descriptorsAt (header m)) m)
 bodied m h = rw (le-ltb (length m) Codes.HEADER-LEN h)
 
 by-size : {A : Type 0} (a b : ℕ) (c : Bool) → ltb a b ≡ c → (a < b → A) → (b ≤ a → A) → A
@@ -53,6 +57,10 @@ bytes-in m l = rw (heading m l) (sym (take-all Codes.HEADER-LEN m (omega arith))
 
 pub header-in : (m : List ℕ) → Codes.HEADER-LEN ≤ length m → headerIn (messageIn m) ≡ headerOf (header m)
 header-in m l = rw (bodied m l)
+
+-- and the packets of a submit that is whole
+pub packets-in : (m : List ℕ) → Codes.HEADER-LEN ≤ length m → packetsIn (messageIn m) ≡ sentPackets m
+packets-in m l = ap packetsIn (bodied m l) ∙ packets-are m
 
 -- where its next byte goes, and how many its header still takes
 pub place-in : (m : List ℕ) → place (messageIn m) ≡ placeOf m
@@ -75,12 +83,28 @@ module _ (m : List ℕ) (x : ℕ) where
       short (suc (length m)) Codes.HEADER-LEN (λ h. grown-in m x h ∙ sym (heading more (omega (arith, one-more m x))))
       (λ h.
       let e : length more - Codes.HEADER-LEN ≡ 0 = omega (arith, one-more m x) in
-      grown-whole m x h ∙ sym (rw (bodied more (omega (arith, one-more m x)), take-all Codes.HEADER-LEN more (omega (arith, one-more m x)), e)))
+      let none : drop (descriptorsAt (header more)) more ≡ [] =
+      drop-of-length-le more {i = descriptorsAt (header more)} (omega (arith, one-more m x)) in
+      grown-whole m x h ∙ sym (rw (bodied more (omega (arith, one-more m x)), none, take-all Codes.HEADER-LEN more (omega (arith, one-more m x)), e)))
 
-  grown-body : Codes.HEADER-LEN ≤ length m → headed (headerOf (header m)) (suc (length m - Codes.HEADER-LEN)) ≡ messageIn more
+  -- it is of the data, of which n bytes are to come, or behind it
+  kept : (n : ℕ) → Codes.HEADER-LEN ≤ length m
+      → cond (ltb (length m - Codes.HEADER-LEN) n) (drop (Codes.HEADER-LEN + n) m) (drop (Codes.HEADER-LEN + n) m ++ (x ∷ []))
+      ≡ drop (Codes.HEADER-LEN + n) more
+  kept n l =
+      short (length m - Codes.HEADER-LEN) n
+      (λ h.
+      let a : drop (Codes.HEADER-LEN + n) m ≡ [] = drop-of-length-le m {i = Codes.HEADER-LEN + n} (omega arith) in
+      let b : drop (Codes.HEADER-LEN + n) more ≡ [] = drop-of-length-le more {i = Codes.HEADER-LEN + n} (omega (arith, one-more m x)) in
+      rw (lt-ltb (length m - Codes.HEADER-LEN) n h) (a ∙ sym b))
+      λ h. rw (le-ltb (length m - Codes.HEADER-LEN) n h) (sym (drop-append-le (Codes.HEADER-LEN + n) m (x ∷ []) (omega arith)))
+
+  grown-body : Codes.HEADER-LEN ≤ length m
+      → grownBy (headed (headerOf (header m)) (length m - Codes.HEADER-LEN) (drop (descriptorsAt (header m)) m)) x ≡ messageIn more
   grown-body l =
       let e : suc (length m - Codes.HEADER-LEN) ≡ length more - Codes.HEADER-LEN = omega (arith, one-more m x) in
-      rw (bodied more (omega (arith, one-more m x)), take-append-le Codes.HEADER-LEN m (x ∷ []) l, e)
+      let h = headerOf (header m) in
+      rw (bodied more (omega (arith, one-more m x)), take-append-le Codes.HEADER-LEN m (x ∷ []) l) (λ i. headed h (e i) (kept (dataLen h) l i))
 
   grown : grownBy (messageIn m) x ≡ messageIn more
   grown = short (length m) Codes.HEADER-LEN (λ l. rw (heading m l) (grown-head l)) (λ l. rw (bodied m l) (grown-body l))

@@ -5,10 +5,10 @@ use mathlib.Core.Logic.{_↔_}
 use mathlib.Core.Bool.{true, false, not, true≢false}
 use mathlib.Core.List.{List}
 use mathlib.Core.Option.{Option, none, some}
-use lib.ListN.{length}
-use Rattle.messages.specs.Messages.{headerOf}
+use lib.ListN.{length, drop}
+use Rattle.messages.specs.Messages.{headerOf, isoCount}
 use Rattle.messages.specs.declared.message.Transfer.{Transfer}
-use Rattle.ground.proofs.Tests.{not-iff, refutes}
+use Rattle.ground.proofs.Tests.{not-iff, refutes, iff-trans}
 use Rattle.ground.proofs.Cases.{by-cond}
 use Rattle.pending.specs.Pending.{ticketOf, seqnumOf, findBy, found, ticketPlace, urbAt}
 use Rattle.pending.specs.declared.urb.Urb.{Urb}
@@ -21,10 +21,12 @@ use Rattle.verdicts.proofs.Tables
 use Rattle.verdicts.proofs.Tables.{iff-refl, short-read-iff}
 use Rattle.model.specs.State.{Sess, closed}
 use Rattle.model.specs.Judging.{submitTestsOf, headerTestsOf}
-use Rattle.model.specs.Acts.{Buffers, feedTestsOf, Completion, theTransfer, completing, completionTestsOf}
+use Rattle.model.specs.Acts.{Buffers, feedTestsOf, Kind, Completion, theTransfer, thePackets, kindFits, completing, completionTestsOf}
 use Rattle.model.specs.Book.{Book, Item, pendingOf, SomePending, NonePending}
-use Rattle.model.specs.Claims.{Counted, Holder, feedRowsBy, completionRowsBy, headerRowsBy, submitRowsBy, SentAs}
+use Rattle.model.specs.Claims.{header, Counted, Holder, Misfit, feedRowsBy, completionRowsBy, headerRowsBy, descriptorsAt, BadPackets}
+use Rattle.model.specs.Claims.{submitRowsBy, SentAs}
 use Rattle.model.proofs.Facts.{mem-to, mem-from, distinct-one, tickets-rise, tickets-distinct}
+use Rattle.model.proofs.Packets.{bad-iff, misfit-iff}
 
 -- ## Pending items and keys
 
@@ -51,9 +53,11 @@ none-iff is key k =
 pub header-match : (devid : ℕ) (is : List Item) (h : List ℕ) → Decides (headerTestsOf (headerOf h) devid (pendingOf is)) (headerRowsBy devid is h)
 header-match devid is h = Tables.header-match (headerOf h) devid _ _ _ (some-iff is seqnumOf (headerOf h .transfer .seqnum)) (dirty-iff h)
 
-pub submit-match : (s : Sess) (b : Book) (h : List ℕ) → s .pend ≡ pendingOf (b .items) → s .link .counts .accepted ≡ length (b .items)
-    → Match (submitTestsOf (headerOf h) s) (submitRowsBy (s .link .devid) (b .items) h)
-submit-match s b h p a = rw (p, a) (Tables.submit-match (headerOf h) (s .link .devid) (length (pendingOf (b .items))) (length (b .items)))
+pub submit-match : (s : Sess) (b : Book) (m : List ℕ) → s .pend ≡ pendingOf (b .items) → s .link .counts .accepted ≡ length (b .items)
+    → Match (submitTestsOf (headerOf (header m)) (drop (descriptorsAt (header m)) m) s) (submitRowsBy (s .link .devid) (b .items) m)
+submit-match s b m p a =
+    rw (p, a)
+    (Tables.submit-match (headerOf (header m)) (s .link .devid) _ (length (pendingOf (b .items))) (length (b .items)) (BadPackets m) (bad-iff m))
 
 pub feed-match : (s : Sess) (b : Book) (lent : Buffers) → closed s ≡ b .closed → Match (feedTestsOf s lent) (feedRowsBy b lent)
 feed-match s b lent c = rw c (Tables.feed-match (b .closed) (length (lent .work)) (length (lent .reply)) (b .closed ≡ true) iff-refl)
@@ -64,7 +68,7 @@ named-first is t counted = rw (ticket-placed t (pendingOf is) (tickets-rise is c
 
 -- what is asked of the URB that a ticket names, by the book
 module _ (b : Book) (t : ℕ) (counted : Counted 1 (b .items)) where
-  pub the-one : (u : Urb) → findBy ticketOf t (pendingOf (b .items)) ≡ some u → (P : Transfer → Type 0) → P (u .transfer) ↔ Holder (b .items) t P
+  pub the-one : (u : Urb) → findBy ticketOf t (pendingOf (b .items)) ≡ some u → (P : Urb → Type 0) → P u ↔ Holder (b .items) t P
   the-one u h P =
       let us = pendingOf (b .items) in
       let d = tickets-distinct (b .items) counted in
@@ -76,17 +80,24 @@ module _ (b : Book) (t : ℕ) (counted : Counted 1 (b .items)) where
       )
 
   holder : (o : Option Urb) → findBy ticketOf t (pendingOf (b .items)) ≡ o → not (found o) ≡ false
-      → (P : Transfer → Type 0) → P (theTransfer o) ↔ Holder (b .items) t P
+      → (P : Transfer → Type 0) → P (theTransfer o) ↔ Holder (b .items) t (λ u. P (u .transfer))
   holder none h f P = absurd (true≢false f)
-  holder (some u) h f P = the-one u h P
+  holder (some u) h f P = the-one u h (λ u. P (u .transfer))
+
+  -- a completion doesn't fit it
+  unfitting : (k : Kind) (total : ℕ) (o : Option Urb) → findBy ticketOf t (pendingOf (b .items)) ≡ o → not (found o) ≡ false
+      → (not (kindFits k (isoCount (theTransfer o .packets)) (thePackets o) total) ≡ true) ↔ Holder (b .items) t (Misfit k total)
+  unfitting k total none h f = absurd (true≢false f)
+  unfitting k total (some u) h f = iff-trans (misfit-iff k total u) (the-one u h (Misfit k total))
 
 pub completion-match : (s : Sess) (b : Book) (c : Completion) → closed s ≡ b .closed → s .pend ≡ pendingOf (b .items) → Counted 1 (b .items)
     → Match (completionTestsOf s c) (completionRowsBy b c)
 completion-match s b c e p counted =
     let o = findBy ticketOf (c .ticket) (pendingOf (b .items)) in
     rw (e, p, named-first (b .items) (c .ticket) counted)
-    (Tables.completion-match (completing (b .closed) o c) _ _ _ iff-refl (none-iff (b .items) ticketOf (c .ticket))
-    (λ f P. holder b (c .ticket) counted o refl f (λ u. P (u .length) (u .direction))))
+    (Tables.completion-match (completing (b .closed) o c) _ _ _ _ iff-refl (none-iff (b .items) ticketOf (c .ticket))
+    (λ f P. holder b (c .ticket) counted o refl f (λ u. P (u .length) (u .direction)))
+    (λ f. unfitting b (c .ticket) counted (c .kind) (c .actual) o refl f))
 
 -- ## The status sent
 

@@ -23,7 +23,8 @@ use Rattle.model.specs.Judging.{grow, urbOf, breaks, submitTestsOf, subm
 use Rattle.model.specs.Judging.{lookedUp}
 use Rattle.model.specs.Judging.{imports, request, judge}
 use Rattle.model.specs.Acts.{accepts, between, shuts, drops, attaches, deviceOf, after, replyTo, Buffers, put, writeReply, feedBytes, feedTestsOf}
-use Rattle.model.specs.Acts.{refusedFeed, doneFeed, feedOf, Completion, theTransfer, namedPlace, completionTestsOf, Complete, refusedCompletion}
+use Rattle.model.specs.Acts.{refusedFeed, doneFeed, feedOf, Completion, theTransfer, thePackets, namedPlace, completionTestsOf, Complete}
+use Rattle.model.specs.Acts.{refusedCompletion}
 use Rattle.model.specs.Acts.{completeOf, Close, closeOf, openOf}
 use Rattle.model.specs.Cut.{stepAll, outcomeReply, written, Feeding}
 use Rattle.model.specs.Book.{Call, feed, complete, close}
@@ -86,6 +87,10 @@ transfer-untimed : (o : Option Urb) → theTransfer (untimedFound o) ≡ theTran
 transfer-untimed none = refl
 transfer-untimed (some u) = refl
 
+packets-untimed : (o : Option Urb) → thePackets (untimedFound o) ≡ thePackets o
+packets-untimed none = refl
+packets-untimed (some u) = refl
+
 tickets-untimed : (us : List Urb) → tickets (map untimedUrb us) ≡ tickets us
 tickets-untimed [] = refl
 tickets-untimed (u ∷ us) = ap (λ (ts : List ℕ). ticketOf u ∷ ts) (tickets-untimed us)
@@ -93,23 +98,23 @@ tickets-untimed (u ∷ us) = ap (λ (ts : List ℕ). ticketOf u ∷ ts) (tickets
 -- ## What is said
 
 module _ (time : ℕ) (s : Sess) where
-  submitted-untimed : (h : Header) → untimedEvent (submitted time s h) ≡ submitted 0 (untimed s) h
+  submitted-untimed : (h : Header) (ds : List ℕ) → untimedEvent (submitted time s h ds) ≡ submitted 0 (untimed s) h ds
   unfolding submitted decide
-  submitted-untimed h = rw (length-map (s .pend) untimedUrb) (at (first (submitTestsOf h s)))
+  submitted-untimed h ds = rw (length-map (s .pend) untimedUrb) (at (first (submitTestsOf h ds s)))
     where
       at : (o : Option ℕ) → let n = suc (s .link .counts .accepted) in
-          untimedEvent (decide o (answer (h .transfer .seqnum)) (submit (urbOf n time h)))
-          ≡ decide o (answer (h .transfer .seqnum)) (submit (urbOf n 0 h))
+          untimedEvent (decide o (answer (h .transfer .seqnum)) (submit (urbOf n time h ds)))
+          ≡ decide o (answer (h .transfer .seqnum)) (submit (urbOf n 0 h ds))
       at none = refl
       at (some st) = refl
 
-  submitting-untimed : (h : Header) (body : ℕ) → untimedEvent (submitting time s h body) ≡ submitting 0 (untimed s) h body
+  submitting-untimed : (h : Header) (body : ℕ) (ds : List ℕ) → untimedEvent (submitting time s h body ds) ≡ submitting 0 (untimed s) h body ds
   unfolding submitting pick
-  submitting-untimed h body = at (ltb body (bodyLen h))
+  submitting-untimed h body ds = at (ltb body (bodyLen h))
     where
-      at : (c : Bool) → untimedEvent (pick c hungry (submitted time s h)) ≡ pick c hungry (submitted 0 (untimed s) h)
+      at : (c : Bool) → untimedEvent (pick c hungry (submitted time s h ds)) ≡ pick c hungry (submitted 0 (untimed s) h ds)
       at true = refl
-      at false = submitted-untimed h
+      at false = submitted-untimed h ds
 
   unlinks-untimed : (q : ℕ) (o : Option Urb) → untimedEvent (unlinks q o) ≡ unlinks q (untimedFound o)
   unlinks-untimed q none = refl
@@ -126,7 +131,7 @@ module _ (time : ℕ) (s : Sess) where
   -- by the tests and what is looked up
   abbrev headerBy : ℕ → Sess → Header → List (Test Fault) → Option Urb → Event
   headerBy t z h tests u =
-      decide (first tests) (breaks z) (pick (eqb (h .command) Codes.CMD-SUBMIT) (submitting t z h 0) (unlinks (h .transfer .seqnum) u))
+      decide (first tests) (breaks z) (pick (eqb (h .command) Codes.CMD-SUBMIT) (submitting t z h 0 []) (unlinks (h .transfer .seqnum) u))
 
   header-untimed : (h : Header) → untimedEvent (wholeHeader time s h) ≡ wholeHeader 0 (untimed s) h
   unfolding wholeHeader decide pick
@@ -135,21 +140,21 @@ module _ (time : ℕ) (s : Sess) where
       ∙ sym (λ i. headerBy 0 (untimed s) h (tests-untimed h i) (find-untimed seqnumOf (λ u. refl) (unlinkSeqnum h) (s .pend) i))
     where
       at : (o : Option Fault) (c : Bool) → let u = findBy seqnumOf (unlinkSeqnum h) (s .pend) in
-          untimedEvent (decide o (breaks s) (pick c (submitting time s h 0) (unlinks (h .transfer .seqnum) u)))
-          ≡ decide o (breaks (untimed s)) (pick c (submitting 0 (untimed s) h 0) (unlinks (h .transfer .seqnum) (untimedFound u)))
+          untimedEvent (decide o (breaks s) (pick c (submitting time s h 0 []) (unlinks (h .transfer .seqnum) u)))
+          ≡ decide o (breaks (untimed s)) (pick c (submitting 0 (untimed s) h 0 []) (unlinks (h .transfer .seqnum) (untimedFound u)))
       at (some f) c = breaks-untimed f
-      at none true = submitting-untimed h 0
+      at none true = submitting-untimed h 0 []
       at none false = unlinks-untimed (h .transfer .seqnum) (findBy seqnumOf (unlinkSeqnum h) (s .pend))
 
   message-untimed : (m : Message) → untimedEvent (message time s m) ≡ message 0 (untimed s) m
   unfolding message pick
   message-untimed (partly bytes) = refl
-  message-untimed (headed h body) = at (eqb body 0)
+  message-untimed (headed h body ds) = at (eqb body 0)
     where
-      at : (c : Bool) → untimedEvent (pick c (wholeHeader time s h) (submitting time s h body))
-          ≡ pick c (wholeHeader 0 (untimed s) h) (submitting 0 (untimed s) h body)
+      at : (c : Bool) → untimedEvent (pick c (wholeHeader time s h) (submitting time s h body ds))
+          ≡ pick c (wholeHeader 0 (untimed s) h) (submitting 0 (untimed s) h body ds)
       at true = header-untimed h
-      at false = submitting-untimed h body
+      at false = submitting-untimed h body ds
 
   requested-untimed : (m : List ℕ) → untimedEvent (requested s m) ≡ requested (untimed s) m
   unfolding requested decide pick
@@ -167,7 +172,7 @@ module _ (time : ℕ) (s : Sess) where
 
   request-untimed : (m : Message) → untimedEvent (request s m) ≡ request (untimed s) m
   unfolding request lookedUp pick
-  request-untimed (headed h body) = imports-untimed (lookedUp s)
+  request-untimed (headed h body ds) = imports-untimed (lookedUp s)
   request-untimed (partly m) =
       at (ltb (length m) Codes.OP-LEN) (eqb (length m) Codes.OP-LEN) (ltb (length m) (Codes.OP-LEN + Codes.BUSID-LEN))
     where
@@ -299,6 +304,7 @@ complete-untimed s c =
       at-untimed p (s .pend),
       found-untimed (urbAt p (s .pend)),
       transfer-untimed (urbAt p (s .pend)),
+      packets-untimed (urbAt p (s .pend)),
       without-untimed p (s .pend),
     )
     (at (first (completionTestsOf s c)) _)

@@ -1,7 +1,7 @@
 -- What a feed leaves as it was.
-use Prim.Native.Nat.{ℕ, suc, _+_, _≤_, _<_}
+use Prim.Native.Nat.{ℕ, suc, _+_, _*_, _≤_, _<_}
 use native.Mathlib.Omega.{arith}
-use mathlib.Core.Path.{_≡_, refl, sym, ap, _∙_}
+use mathlib.Core.Path.{_≡_, refl, sym, ap, subst, _∙_}
 use mathlib.Core.List.{List, [], _∷_, _++_}
 use mathlib.Core.Bool.{false}
 use mathlib.Core.Option.{Option, none, some}
@@ -14,6 +14,8 @@ use Rattle.messages.specs.Messages.{bodyLen, unlinkSeqnum, headerOf, requestOf}
 use Rattle.messages.specs.declared.message.Header.{Header}
 use Rattle.lookup.specs.declared.Found.{Found}
 use Rattle.lookup.specs.declared.Found.the-variants.{At, Nothing}
+use Rattle.replies.specs.Replies.{submitReply}
+use Rattle.replies.proofs.Laws.{reply-length}
 use Rattle.pending.specs.Pending.{seqnumOf, findBy}
 use Rattle.pending.specs.declared.urb.Urb.{Urb}
 use Rattle.limits.specs.Limits
@@ -26,7 +28,7 @@ use Rattle.model.specs.Judging
 use Rattle.model.specs.Judging.{grownBy, grow, judge}
 use Rattle.model.specs.Acts
 use Rattle.model.specs.Acts.{Buffers, put, after, replyTo, writeReply, feedBytes, feedOf, doneFeed, Complete, completeOf, Close, closeOf}
-use Rattle.model.specs.Cut.{stepAll, taken, replied, dataPlaced, Heading, Feeding, Leaving, Untouched, butWork, lent, WorkFree, Keeps}
+use Rattle.model.specs.Cut.{stepAll, taken, replied, bodyPlaced, Heading, Feeding, Leaving, Untouched, butWork, lent, WorkFree, Keeps}
 use Rattle.model.proofs.Cutting
 use Rattle.model.proofs.Cut.{lawful}
 use Rattle.model.proofs.Growth.{holding, grow-is, grown-room, grow-body, grow-place, put-all}
@@ -40,7 +42,7 @@ InFront s = place (s .link .message) ≡ 0
 -- If the header is whole, it announces more than what came.
 abbrev Announced : Message → Type 0
 Announced (partly bytes) = Unit
-Announced (headed h body) = body < bodyLen h
+Announced (headed h body ds) = body < bodyLen h
 
 -- A feed goes on within a request, within a header, within a body.
 record Waits (s : Sess) : Type 0 where
@@ -69,30 +71,31 @@ module _ (time : ℕ) (s : Sess) (n : s .link .phase ≡ Limits.WAITING → ⊥)
   announced : Announced (s .link .message) → Waits s
   announced a = record { request = λ w. absurd (n w); message = λ _. a }
 
-  judged-submit : (h : Header) (body : ℕ) → s .link .message ≡ headed h body → Judged s (Judging.submitting time s h body)
+  -- whatever its descriptors are taken for
+  judged-submit : (h : Header) (body : ℕ) (ds es : List ℕ) → s .link .message ≡ headed h body ds → Judged s (Judging.submitting time s h body es)
   unfolding Judging.submitting Judging.submitted
-  judged-submit h body e =
+  judged-submit h body ds es e =
       by-test (Judged s) (λ l. announced (rw e (ltb-true body (bodyLen h) l)))
-      (λ _. by-first (Judged s) (first (Judging.submitTestsOf h s)) (λ _ _. tt) (λ _. tt))
+      (λ _. by-first (Judged s) (first (Judging.submitTestsOf h es s)) (λ _ _. tt) (λ _. tt))
 
-  judged-header : (h : Header) → s .link .message ≡ headed h 0 → Judged s (Judging.wholeHeader time s h)
+  judged-header : (h : Header) (ds : List ℕ) → s .link .message ≡ headed h 0 ds → Judged s (Judging.wholeHeader time s h)
   unfolding Judging.wholeHeader
-  judged-header h e =
+  judged-header h ds e =
       let f : InFront s = rw e in
       by-first (Judged s) (first (Judging.headerTestsOf h (s .link .devid) (s .pend))) (λ _ _. f)
-      (λ _. by-test (Judged s) (λ _. judged-submit h 0 e)
+      (λ _. by-test (Judged s) (λ _. judged-submit h 0 ds [] e)
       (λ _. judged-unlink s (h .transfer .seqnum) (findBy seqnumOf (unlinkSeqnum h) (s .pend)) f))
 
   judged-message : (m : Message) → s .link .message ≡ m → Judged s (Judging.message time s m)
   unfolding Judging.message
   judged-message (partly bytes) e = announced (rw e tt)
-  judged-message (headed h body) e =
-      by-test (Judged s) (λ z. judged-header h (e ∙ ap (headed h) (eqb-true body 0 z))) (λ _. judged-submit h body e)
+  judged-message (headed h body ds) e =
+      by-test (Judged s) (λ z. judged-header h ds (e ∙ ap (λ n. headed h n ds) (eqb-true body 0 z))) (λ _. judged-submit h body ds ds e)
 
 module _ (s : Sess) (w : s .link .phase ≡ Limits.WAITING) where
   judged-request : (m : Message) → s .link .message ≡ m → Judged s (Judging.request s m)
   unfolding Judging.request Judging.requested
-  judged-request (headed h body) e = judged-import s (Judging.lookedUp s)
+  judged-request (headed h body ds) e = judged-import s (Judging.lookedUp s)
   judged-request (partly m) e =
       let f : InFront s = rw e in
       let waits : length m < Codes.HEADER-LEN → Waits s = λ h. record { request = λ _. rw e h; message = λ n. absurd (n w) } in
@@ -118,44 +121,44 @@ front-none : (xs : List ℕ) (s : Sess) → InFront (stepAll grow s xs) → drop
 front-none xs s f = empty-is (drop (room (s .link .message)) xs) (omega (arith, grow-place xs s))
 
 -- a session that has no body to come: it waits for a request, or the bytes that come make a header that announces none
-abbrev Dataless : Sess → List ℕ → Type 0
-Dataless s xs = (s .link .phase ≡ Limits.WAITING → ⊥) → bodyLen (headerIn (stepAll grow s xs .link .message)) ≡ 0
+abbrev Bodiless : Sess → List ℕ → Type 0
+Bodiless s xs = (s .link .phase ≡ Limits.WAITING → ⊥) → bodyLen (headerIn (stepAll grow s xs .link .message)) ≡ 0
 
 -- it waits only for its header, byte by byte
-heading-on : (s : Sess) (x : ℕ) (xs : List ℕ) (m : Message) → s .link .message ≡ m → Heading m → Waits (grow s x) → Dataless (grow s x) xs
+heading-on : (s : Sess) (x : ℕ) (xs : List ℕ) (m : Message) → s .link .message ≡ m → Heading m → Waits (grow s x) → Bodiless (grow s x) xs
     → Heading (grow s x .link .message) × (suc (room (grow s x .link .message)) ≡ room m)
-heading-on s x xs (headed h body) e f w d = absurd f
+heading-on s x xs (headed h body ds) e f w d = absurd f
 heading-on s x xs (partly bytes) e f w d =
     let g = grow-is s x e in
-    let heading : Waits (holding s (grownBy (partly bytes) x)) → Dataless (holding s (grownBy (partly bytes) x)) xs → Heading (grownBy (partly bytes) x) =
-    by-test (λ m. Waits (holding s m) → Dataless (holding s m) xs → Heading m) (λ l _ _. ltb-true _ _ l)
+    let heading : Waits (holding s (grownBy (partly bytes) x)) → Bodiless (holding s (grownBy (partly bytes) x)) xs → Heading (grownBy (partly bytes) x) =
+    by-test (λ m. Waits (holding s m) → Bodiless (holding s m) xs → Heading m) (λ l _ _. ltb-true _ _ l)
     (λ _ w d. whole (headerOf (bytes ++ (x ∷ []))) w d) in
     rw g (heading (rw g at w) (rw g at d), ap suc (grown-room bytes x))
   where
-    whole : (h : Header) → Waits (holding s (headed h 0)) → Dataless (holding s (headed h 0)) xs → ⊥
+    whole : (h : Header) → Waits (holding s (headed h 0 [])) → Bodiless (holding s (headed h 0 [])) xs → ⊥
     whole h w d =
-        let t = holding s (headed h 0) in
-        let z = ap (λ (s : Sess). bodyLen (headerIn (s .link .message))) (grow-body h 0 xs t refl) in
+        let t = holding s (headed h 0 []) in
+        let z = ap (λ (s : Sess). bodyLen (headerIn (s .link .message))) (grow-body h 0 [] xs t refl) in
         omega (arith, w .message (w .request), z, d (w .request))
 
 room-some : (m : Message) → Heading m → 0 < room m
 room-some (partly bytes) f = omega arith
-room-some (headed h body) f = absurd f
+room-some (headed h body ds) f = absurd f
 
-dataless-on : (s : Sess) (x : ℕ) (xs : List ℕ) → Dataless s (x ∷ xs) → Dataless (grow s x) xs
+bodiless-on : (s : Sess) (x : ℕ) (xs : List ℕ) → Bodiless s (x ∷ xs) → Bodiless (grow s x) xs
 unfolding grow
-dataless-on s x xs d = d
+bodiless-on s x xs d = d
 
 -- its feeds end with the header
 front-consumed : (time : ℕ) (xs : List ℕ) (b : Buffers) (s : Sess) → Heading (s .link .message)
-    → Dataless s (take (feedBytes s b xs time .consumed) xs) → feedBytes s b xs time .consumed ≤ room (s .link .message)
+    → Bodiless s (take (feedBytes s b xs time .consumed) xs) → feedBytes s b xs time .consumed ≤ room (s .link .message)
 front-consumed time xs b s =
     Cutting.by-feed grow put (judge time) after writeReply Event.hungry isHungry
-    (λ s b xs r. Heading (s .link .message) → Dataless s (take (r .consumed) xs) → r .consumed ≤ room (s .link .message))
+    (λ s b xs r. Heading (s .link .message) → Bodiless s (take (r .consumed) xs) → r .consumed ≤ room (s .link .message))
     (λ s b h d. omega arith)
     (λ s b x xs _ h d. room-some (s .link .message) h)
     (λ s b x xs r q f h d.
-    let g = dataless-on s x (take (r .consumed) xs) d in
+    let g = bodiless-on s x (take (r .consumed) xs) d in
     let w : Waits (grow s x) = rw (lawful time .silent (grow s x) q) at (judged time (grow s x)) in
     let n = heading-on s x (take (r .consumed) xs) (s .link .message) refl h w g in
     omega (arith, n .1, f (n .0) g)) xs b s
@@ -173,7 +176,7 @@ module _ (s : Sess) (b : Buffers) (piece : List ℕ) (time : ℕ) where
       rw (Cutting.fed-judged grow put (judge time) after writeReply Event.hungry isHungry (lawful time) piece b s (ap isHungry (done-is h) ∙ q) ∙ done-is h)
       at (judged time (taken s piece fed))
 
-  fed-buffers : fed .buffers ≡ lent (sets (b .work) (place (s .link .message)) (dataPlaced s piece fed)) (over (replied s piece fed) (b .reply))
+  fed-buffers : fed .buffers ≡ lent (sets (b .work) (place (s .link .message)) (bodyPlaced s piece fed)) (over (replied s piece fed) (b .reply))
   unfolding writeReply
   fed-buffers =
       ap (λ (r : Fed Sess Event Buffers). r .buffers) (Cutting.fed-is grow put (judge time) after writeReply Event.hungry isHungry (lawful time) piece b s)
@@ -184,13 +187,13 @@ module _ (s : Sess) (b : Buffers) (piece : List ℕ) (time : ℕ) where
   fed-mute e h n = rw (fed-buffers, done-is h, n)
 
   -- no body
-  fed-bare : dataPlaced s piece fed ≡ [] → fed .buffers .work ≡ b .work
+  fed-bare : bodyPlaced s piece fed ≡ [] → fed .buffers .work ≡ b .work
   fed-bare h = rw (fed-buffers, h)
 
   fed-front : InFront (taken s piece fed) → fed .buffers .work ≡ b .work
   fed-front f = fed-bare (front-none (take (fed .consumed) piece) s f)
 
-  fed-heading : Heading (s .link .message) → Dataless s (take (fed .consumed) piece) → fed .buffers .work ≡ b .work
+  fed-heading : Heading (s .link .message) → Bodiless s (take (fed .consumed) piece) → fed .buffers .work ≡ b .work
   fed-heading h d =
       fed-bare (drop-of-length-le (take (fed .consumed) piece) {i = room (s .link .message)}
       (simp length-take (omega (arith, front-consumed time piece b s h d))))
@@ -208,7 +211,7 @@ module _ (s : Sess) (b : Buffers) (piece : List ℕ) (time : ℕ) where
         lists = λ h. fed-front (fed-judged Event.list h refl);
         requests = λ w h. fed-heading h (λ n. absurd (n w));
         unlinks = λ q st t h. fed-front (fed-judged (Event.unlink q st t) h refl);
-        dataless = λ h d. fed-heading h (λ _. d);
+        bodiless = λ h d. fed-heading h (λ _. d);
       }
 
   leaving : Leaving s b piece (feedOf s b piece time)
@@ -225,7 +228,7 @@ module _ (s : Sess) (b : Buffers) (piece : List ℕ) (time : ℕ) where
         lists = λ _. refl;
         requests = λ _ _. refl;
         unlinks = λ _ _ _ _. refl;
-        dataless = λ _ _. refl;
+        bodiless = λ _ _. refl;
       })
       (λ _. leaving-bytes)
 
@@ -283,7 +286,7 @@ work-free s v w reply piece time h =
     let m = s .link .message in
     record {
       answer = e;
-      bytes = dataPlaced s piece q;
+      bytes = bodyPlaced s piece q;
       first = untouched s (lent v reply) piece time .work
           ∙ ap (λ (r : Fed Sess (Outcome Event) (List ℕ)). sets v (place m) (drop (room m) (take (r .consumed) piece))) e;
       second = untouched s (lent w reply) piece time .work;
@@ -291,13 +294,18 @@ work-free s v w reply piece time h =
 
 -- ## The other acts
 
+behind : (bytes : List ℕ) (n : ℕ) → length bytes ≡ n → (buffer : List ℕ) → drop n (over bytes buffer) ≡ drop n buffer
+behind bytes n e buffer = subst (λ (k : ℕ). drop k (over bytes buffer) ≡ drop k buffer) e (over-past bytes buffer)
+
 pub keeps : Keeps
 unfolding completeOf closeOf
 keeps s c =
     record {
       complete = by-first (λ (r : Complete). (n : ℕ) → r .answer ≡ refused n → r ≡ Acts.refusedCompletion s c n) (first (Acts.completionTestsOf s c))
           (λ n _ m h. cc) (λ _ m h. cc);
-      header = by-first (λ (r : Complete). drop Codes.HEADER-LEN (r .header) ≡ drop Codes.HEADER-LEN (c .header)) (first (Acts.completionTestsOf s c))
-          (λ _ _. refl) (λ _. refl);
+      header =
+          let n = Codes.HEADER-LEN + length (Acts.resultsIn (c .kind)) * Codes.DESCRIPTOR-LEN in
+          by-first (λ (r : Complete). drop n (r .header) ≡ drop n (c .header)) (first (Acts.completionTestsOf s c))
+          (λ _ _. refl) (λ _. behind (submitReply _ _ (Acts.resultsIn (c .kind))) n (reply-length _ _ (Acts.resultsIn (c .kind))) (c .header));
       close = by-test (λ (r : Close). (n : ℕ) → r .answer ≡ refused n → r .next ≡ s) (λ _ _ _. refl) (λ _ n h. cc);
     }

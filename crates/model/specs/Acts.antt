@@ -1,13 +1,19 @@
 -- The acts of a session: what each answers, writes and leaves (PROTOCOL.md, 3 and 4).
 use Prim.Native.Nat.{ℕ}
-use mathlib.Core.Bool.{Bool, true, false}
+use mathlib.Core.Bool.{Bool, true, false, _&&_}
 use mathlib.Core.List.{List, [], _∷_, _++_}
 use mathlib.Core.Option.{Option, none, some}
-use lib.Dec.{eqb}
+use lib.Dec.{eqb, ltb}
 use lib.ListN.{length, set, getD}
 use Rattle.ground.specs.Writing.{over}
-use Rattle.messages.specs.Messages.{retSubmit, retUnlink, unlinkSeqnum}
+use Rattle.messages.specs.Messages.{retUnlink, unlinkSeqnum, isoCount}
 use Rattle.messages.specs.declared.message.Transfer.{Transfer}
+use Rattle.messages.specs.declared.reply.RetSubmit.{RetSubmit}
+use Rattle.packets.specs.declared.packet.Packet.{Packet}
+use Rattle.results.specs.Results.{resultsFit, errors}
+use Rattle.results.specs.declared.PacketResult.{PacketResult}
+use Rattle.descriptors.specs.Descriptors.{refusedResults}
+use Rattle.replies.specs.Replies.{submitReply}
 use Rattle.exports.specs.Devices.{noDevice, devicesOf}
 use Rattle.exports.specs.declared.device.Device.{Device}
 use Rattle.exports.specs.declared.device.Table.{Table}
@@ -28,7 +34,7 @@ use Rattle.verdicts.specs.Verdicts
 use Rattle.verdicts.specs.declared.verdict.Completing.{Completing}
 use Rattle.model.specs.Machine.{Fed, feed}
 use Rattle.model.specs.State.{Message, partly, headed, Sess, closed, withLink, withPend, inPhase, withMessage, withCounts, attachedAs, noMessage}
-use Rattle.model.specs.State.{headerIn, End, returned, unlinked, dropped, ended, oneAccepted}
+use Rattle.model.specs.State.{headerIn, packetsIn, End, returned, unlinked, dropped, ended, oneAccepted}
 use Rattle.model.specs.Answers.{Outcome, refused, done, Returned, Event, hungry, list, import, submit, answer, unlink, break, isHungry}
 use Rattle.model.specs.Judging.{grow, judge, lookedUp}
 
@@ -81,9 +87,14 @@ abbrev pub importBytes : Table → Found → List ℕ
 importBytes t (At i) = importReply (getD (devicesOf t) i noDevice)
 importBytes t Nothing = importRefusal
 
--- The reply to a URB, with a status and an actual length.
-abbrev pub replyFor : Transfer → (status actual : ℕ) → List ℕ
-replyFor u status actual = retSubmit (record { seqnum = u .seqnum; status = status; actual = actual; start = u .start; packets = u .packets })
+-- The header of the reply to a URB, with a status, an actual length and an error count.
+abbrev pub retFor : Transfer → (status actual errors : ℕ) → RetSubmit
+retFor u status actual errors =
+    record { seqnum = u .seqnum; status = status; actual = actual; start = u .start; packets = u .packets; errors = errors }
+
+-- The reply to a submit that is refused with a status: its descriptors are sent back.
+abbrev pub refusalFor : Transfer → List Packet → (status : ℕ) → List ℕ
+refusalFor u ks status = submitReply (retFor u status 0 0) ks (refusedResults (length ks) status)
 
 -- A refused submit's reply is to the submit whose header is in.
 unfoldable pub replyTo : Sess → Event → List ℕ
@@ -91,7 +102,7 @@ replyTo s hungry = []
 replyTo s list = listReply (s .table)
 replyTo s (import st) = importBytes (s .table) (lookedUp s)
 replyTo s (submit u) = []
-replyTo s (answer q st) = replyFor (headerIn (s .link .message) .transfer) st 0
+replyTo s (answer q st) = refusalFor (headerIn (s .link .message) .transfer) (packetsIn (s .link .message)) st
 replyTo s (unlink q st t) = retUnlink (record { seqnum = q; status = st })
 replyTo s (break f ts) = []
 
@@ -102,10 +113,10 @@ pub record Buffers : Type 0 where
   pub work : List ℕ
   pub reply : List ℕ
 
--- "OUT data goes to the work buffer at its own position from 0 as it comes"
+-- "OUT data goes to the work buffer at its own position from 0 as it comes", and "request descriptors go behind the data"
 abbrev pub dataPut : Message → ℕ → List ℕ → List ℕ
 dataPut (partly bytes) x work = work
-dataPut (headed h body) x work = set work body x
+dataPut (headed h body ds) x work = set work body x
 
 unfoldable pub put : Sess → ℕ → Buffers → Buffers
 put s x b = record { work = dataPut (s .link .message) x (b .work); reply = b .reply }
@@ -132,17 +143,36 @@ feedOf s b piece time = decide (first (feedTestsOf s b)) (refusedFeed s b) (done
 
 -- ## Completing
 
+-- There are two acts: the completion of a URB that isn't isochronous, and of one that is, with a result for each of its packets.
+pub data Kind : Type 0 where
+  plain : Kind
+  isochronous : List PacketResult → Kind
+
+abbrev pub resultsIn : Kind → List PacketResult
+resultsIn plain = []
+resultsIn (isochronous rs) = rs
+
 -- What the device side hands over with a ticket; the payload is its data.
 pub record Completion : Type 0 where
   pub ticket : ℕ
   pub status : ℕ
   pub actual : ℕ
+  pub kind : Kind
   pub payload : List ℕ
   pub header : List ℕ
 
 abbrev pub theTransfer : Option Urb → Transfer
 theTransfer none = noTransfer
 theTransfer (some u) = u .transfer
+
+abbrev pub thePackets : Option Urb → List Packet
+thePackets none = []
+thePackets (some u) = u .iso
+
+-- The act is the one for the URB, by how many packets it has, and the results fit them.
+abbrev pub kindFits : Kind → (count : ℕ) → List Packet → (total : ℕ) → Bool
+kindFits plain count ks total = eqb count 0
+kindFits (isochronous rs) count ks total = ltb 0 count && resultsFit count ks rs total
 
 -- What a completion is judged by; o is what is pending under its ticket.
 abbrev pub completing : Bool → Option Urb → Completion → Completing
@@ -156,6 +186,7 @@ completing closed o c =
       payload = length (c .payload);
       length = theTransfer o .length;
       direction = theTransfer o .direction;
+      fits = kindFits (c .kind) (isoCount (theTransfer o .packets)) (thePackets o) (c .actual);
     }
 
 -- The URB that a completion names: its ticket's, found by halving.
@@ -177,15 +208,17 @@ pub record Complete : Type 0 where
 abbrev pub refusedCompletion : Sess → Completion → ℕ → Complete
 refusedCompletion s c n = record { answer = refused n; header = c .header; next = s }
 
--- "An accepted completion writes the first 48 header bytes, no others, and answers the wire length"; header and answer have the status sent.
+-- An accepted completion writes the 48 header bytes and the descriptors behind them, no others, and answers the wire length; header and
+-- answer have the status sent.
 unfoldable pub completeOf : Sess → Completion → Complete
 completeOf s c =
     let u = theTransfer (named s c) in
+    let rs = resultsIn (c .kind) in
     let sent = Verdicts.statusSent u (c .status) (c .actual) in
     decide (first (completionTestsOf s c)) (refusedCompletion s c)
     (record {
-      answer = done (record { wire = wireLength (u .direction) (c .actual); status = sent });
-      header = over (replyFor u sent (c .actual)) (c .header);
+      answer = done (record { wire = wireLength (u .direction) (c .actual) (isoCount (u .packets)); status = sent });
+      header = over (submitReply (retFor u sent (c .actual) (errors rs)) (thePackets (named s c)) rs) (c .header);
       next = settles (namedPlace s c) returned s;
     })
 

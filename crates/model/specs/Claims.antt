@@ -5,15 +5,21 @@ use mathlib.Core.Bool.{Bool, true, false, cond}
 use mathlib.Core.List.{List, [], _∷_, _++_, map, List·Memᴰ}
 use mathlib.Core.Logic.{_⊎_}
 use mathlib.Core.Option.{Option, none, some}
-use lib.Dec.{eqb}
+use lib.Dec.{eqb, leb}
 use lib.ListN.{length, take, drop, getD}
 use lib.Seq.{sets}
 use Rattle.wire.specs.Codes
+use Rattle.wire.specs.Fields.{field}
 use Rattle.wire.specs.Status.{minus}
 use Rattle.ground.specs.Writing.{over}
 use Rattle.messages.specs.Messages.{requestOf, busidOf, headerOf, Dirty, FirstDirty, unlinkSeqnumOf, retSubmit, retUnlink}
 use Rattle.messages.specs.declared.message.Header.{Header}
 use Rattle.messages.specs.declared.message.Transfer.{Transfer}
+use Rattle.packets.specs.Judging.{Good}
+use Rattle.packets.specs.Packets.{noPacket, packetIn, packetsOf}
+use Rattle.packets.specs.declared.packet.Packet.{Packet}
+use Rattle.results.specs.Results.{errors, Unfit}
+use Rattle.descriptors.specs.Descriptors.{descriptorsOf, refusedResults}
 use Rattle.exports.specs.Devices.{noDevice, devicesOf}
 use Rattle.exports.specs.declared.device.Table.{Table}
 use Rattle.lookup.specs.Lookup.{FirstDevice, NoDevice}
@@ -32,7 +38,7 @@ use Rattle.verdicts.specs.declared.verdict.Fault.{Fault}
 use Rattle.model.specs.State.{partly, headed, Sess, closed, numbersOf, End, returned, unlinked, dropped}
 use Rattle.model.specs.Answers.{Outcome, refused, done, Returned, Event, hungry, list, import, submit, answer, unlink, break, isHungry}
 use Rattle.model.specs.Judging.{urbOf}
-use Rattle.model.specs.Acts.{Buffers, Completion, feedOf, completeOf, closeOf, openOf}
+use Rattle.model.specs.Acts.{Buffers, Kind, plain, isochronous, resultsIn, Completion, feedOf, completeOf, closeOf, openOf}
 use Rattle.model.specs.Cut.{written}
 use Rattle.model.specs.Book.{Call, feed, complete, close, Entry, fed, completed, closing, Book, opened, keep, Item, item, pending, over as past}
 use Rattle.model.specs.Book.{pendingOf, count, countsOf, Pending, SomePending, NonePending}
@@ -58,9 +64,19 @@ header m = take Codes.HEADER-LEN m
 abbrev pub feedRowsBy : Book → Buffers → List (Row ℕ)
 feedRowsBy b lent = Verdicts.feedRows (b .closed ≡ true) (length (lent .work)) (length (lent .reply))
 
--- The pending item that has a ticket has a transfer with P.
-abbrev pub Holder : List Item → ℕ → (Transfer → Type 0) → Type 0
-Holder is t P = (u : Urb) × Pending is u × (ticketOf u ≡ t) × P (u .transfer)
+-- The pending item that has a ticket has a record with P.
+abbrev pub Holder : List Item → ℕ → (Urb → Type 0) → Type 0
+Holder is t P = (u : Urb) × Pending is u × (ticketOf u ≡ t) × P u
+
+-- By number_of_packets a transfer is isochronous.
+abbrev pub Isochronous : Transfer → Type 0
+Isochronous u = (1 ≤ u .packets) × (u .packets ≤ Limits.MAX-PACKETS)
+
+-- "An actual length above its packet, a sum other than the total, another packet count or a completion of the wrong kind": a plain completion
+-- of an isochronous URB, an isochronous one of any other, and results that don't fit the packets.
+abbrev pub Misfit : Kind → (total : ℕ) → Urb → Type 0
+Misfit plain total u = Isochronous (u .transfer)
+Misfit (isochronous rs) total u = (Isochronous (u .transfer) → ⊥) ⊎ Unfit (u .transfer .packets) (u .iso) rs total
 
 -- What the device side hands over, as the rows ask of it; the rest of what they ask is asked of the book.
 abbrev pub handedOver : Completion → Completing
@@ -74,12 +90,14 @@ handedOver c =
       payload = length (c .payload);
       length = 0;
       direction = 0;
+      fits = false;
     }
 
 abbrev pub completionRowsBy : Book → Completion → List (Row ℕ)
 completionRowsBy b c =
     Verdicts.completionRows (handedOver c) (b .closed ≡ true) (NonePending (b .items) ticketOf (c .ticket))
-    (λ P. Holder (b .items) (c .ticket) (λ u. P (u .length) (u .direction)))
+    (λ P. Holder (b .items) (c .ticket) (λ u. P (u .transfer .length) (u .transfer .direction)))
+    (Holder (b .items) (c .ticket) (Misfit (c .kind) (c .actual)))
 
 abbrev pub closeRowsBy : Book → List (Row ℕ)
 closeRowsBy b = row Limits.SESSION-CLOSED (b .closed ≡ true) ∷ []
@@ -92,9 +110,26 @@ requestRowsBy h = Verdicts.requestRows (requestOf h)
 abbrev pub headerRowsBy : ℕ → List Item → List ℕ → List (Row Fault)
 headerRowsBy devid is h = Verdicts.headerRows (headerOf h) devid (SomePending is seqnumOf (headerOf h .transfer .seqnum)) (Dirty h)
 
--- Of a whole submit, by status.
-abbrev pub submitRowsBy : ℕ → List Item → List ℕ → List (Row ℕ)
-submitRowsBy devid is h = Verdicts.submitRows (headerOf h) devid (length (pendingOf is)) (length is)
+-- Where the descriptors of a submit stand, by its header: behind the data, which follows with direction 0 (OUT) only.
+abbrev pub descriptorsAt : List ℕ → ℕ
+descriptorsAt h = let u = headerOf h .transfer in Codes.HEADER-LEN + cond (eqb (u .direction) Codes.DIR-OUT) (u .length) 0
+
+-- How many there are: as many as packets, of an isochronous submit.
+abbrev pub descriptorCount : List ℕ → ℕ
+descriptorCount h = let n = headerOf h .transfer .packets in cond (leb n Limits.MAX-PACKETS) n 0
+
+-- The packets of a whole submit: what its descriptors say.
+abbrev pub sentPackets : List ℕ → List Packet
+sentPackets m = packetsOf (descriptorCount (header m)) (drop (descriptorsAt (header m)) m)
+
+-- An isochronous submit whose packets aren't good: not each inside the transfer and at or after the end of the last, or, for OUT, not
+-- without gaps up to the end.
+abbrev pub BadPackets : List ℕ → Type 0
+BadPackets m = let u = headerOf (header m) .transfer in Isochronous u × (Good (u .direction) (u .length) (sentPackets m) → ⊥)
+
+-- Of a whole submit m, by status.
+abbrev pub submitRowsBy : ℕ → List Item → (m : List ℕ) → List (Row ℕ)
+submitRowsBy devid is m = Verdicts.submitRows (headerOf (header m)) devid (BadPackets m) (length (pendingOf is)) (length is)
 
 -- ## What each event says of the bytes consumed for its message, by the items of the book before the call
 
@@ -115,9 +150,10 @@ RightRequest t is m (answer q st) = ⊥
 RightRequest t is m (unlink q st o) = ⊥
 RightRequest t is m (break f ts) = (length m ≡ Codes.OP-LEN) × Gives (requestRowsBy (header m)) f × (ts ≡ tickets (pendingOf is))
 
--- How long a message is, by its header: "with direction 0 (OUT) the data follows".
+-- How long a message is, by its header: "with direction 0 (OUT) the data follows", and "after the data come that many descriptors of 16
+-- bytes".
 abbrev pub messageLen : List ℕ → ℕ
-messageLen h = let u = headerOf h .transfer in Codes.HEADER-LEN + cond (eqb (u .direction) Codes.DIR-OUT) (u .length) 0
+messageLen h = descriptorsAt h + descriptorCount h * Codes.DESCRIPTOR-LEN
 
 -- The record of an accepted submit: a ticket; every field that it has from its message "as the bytes consumed for it say"; and its arrival
 -- "given with the feed that accepts it".
@@ -134,6 +170,16 @@ Carries ticket time h u =
     × (u .transfer .interval ≡ h .transfer .interval)
     × (u .setup ≡ h .setup)
     × (u .arrival ≡ time)
+
+-- "The record also keeps each packet's offset and length as they came": of a whole submit m, in whose descriptors they stand; the places
+-- behind are blank.
+pub record CarriesPackets (m : List ℕ) (u : Urb) : Type 0 where
+  pub places : length (u .iso) ≡ Limits.MAX-PACKETS
+  pub offsets : (i : ℕ) → i < descriptorCount (header m)
+      → packetIn (u .iso) i .offset ≡ field 4 (descriptorsAt (header m) + i * Codes.DESCRIPTOR-LEN + Codes.PACKET-OFFSET-AT) m
+  pub lengths : (i : ℕ) → i < descriptorCount (header m)
+      → packetIn (u .iso) i .length ≡ field 4 (descriptorsAt (header m) + i * Codes.DESCRIPTOR-LEN + Codes.PACKET-LENGTH-AT) m
+  pub blank : (i : ℕ) → descriptorCount (header m) ≤ i → packetIn (u .iso) i ≡ noPacket
 
 -- What an unlink removes: the pending item that has the seqnum, and none only where there is none.
 abbrev pub Removes : List Item → ℕ → ℕ → Option ℕ → Type 0
@@ -156,14 +202,15 @@ RightMessage devid time is m (submit u) =
     (length m ≡ messageLen (header m))
     × Clear (headerRowsBy devid is (header m))
     × (headerOf (header m) .command ≡ Codes.CMD-SUBMIT)
-    × Clear (submitRowsBy devid is (header m))
-    × (u ≡ urbOf (suc (length is)) time (headerOf (header m)))
+    × Clear (submitRowsBy devid is m)
+    × (u ≡ urbOf (suc (length is)) time (headerOf (header m)) (drop (descriptorsAt (header m)) m))
     × Carries (suc (length is)) time (headerOf (header m)) u
+    × CarriesPackets m u
 RightMessage devid time is m (answer q st) =
     (length m ≡ messageLen (header m))
     × Clear (headerRowsBy devid is (header m))
     × (headerOf (header m) .command ≡ Codes.CMD-SUBMIT)
-    × Gives (submitRowsBy devid is (header m)) st
+    × Gives (submitRowsBy devid is m) st
     × (q ≡ headerOf (header m) .transfer .seqnum)
 RightMessage devid time is m (unlink q st o) =
     (length m ≡ Codes.HEADER-LEN)
@@ -184,7 +231,8 @@ byPhase false waiting attached = attached
 -- ## What a feed writes
 
 -- The bytes of the reply, by the bytes m of the message: none for hungry, an accepted submit, a break and a refusal. A refused
--- submit is answered by a RET_SUBMIT with actual_length 0, start_frame and number_of_packets copied from it.
+-- submit is answered by a RET_SUBMIT with actual_length 0, start_frame and number_of_packets copied from it, and its descriptors, each
+-- with actual_length 0 and the reply's status; error_count is 0.
 abbrev pub Replies : Table → List ℕ → Outcome Event → (bytes : List ℕ) → Type 0
 Replies t m (refused n) bytes = bytes ≡ []
 Replies t m (done hungry) bytes = bytes ≡ []
@@ -195,14 +243,17 @@ Replies t m (done (import (suc st))) bytes = bytes ≡ importRefusal
 Replies t m (done (submit u)) bytes = bytes ≡ []
 Replies t m (done (answer q st)) bytes =
     let u = headerOf (header m) .transfer in
-    bytes ≡ retSubmit (record { seqnum = q; status = st; actual = 0; start = u .start; packets = u .packets })
+    bytes
+    ≡ retSubmit (record { seqnum = q; status = st; actual = 0; start = u .start; packets = u .packets; errors = 0 })
+    ++ descriptorsOf (sentPackets m) (refusedResults (descriptorCount (header m)) st)
 Replies t m (done (unlink q st o)) bytes = bytes ≡ retUnlink (record { seqnum = q; status = st })
 Replies t m (done (break f ts)) bytes = bytes ≡ []
 
--- "OUT data goes to the work buffer at its own position from 0 as it comes": of the bytes xs that come behind a part of a message,
--- the data are those past the 48th of the message, and their place is how many such there were before.
-abbrev pub dataIn : (part xs : List ℕ) → List ℕ
-dataIn part xs = drop (Codes.HEADER-LEN - length part) xs
+-- "OUT data goes to the work buffer at its own position from 0 as it comes", and "request descriptors go behind the data": of the bytes xs
+-- that come behind a part of a message, the body's are those past the 48th of the message, and their place is how many such there were
+-- before.
+abbrev pub bodyIn : (part xs : List ℕ) → List ℕ
+bodyIn part xs = drop (Codes.HEADER-LEN - length part) xs
 
 abbrev pub placeOf : (part : List ℕ) → ℕ
 placeOf part = length part - Codes.HEADER-LEN
@@ -229,9 +280,9 @@ pub record RightFeed (s : Sess) (b : Book) (piece : List ℕ) (lent : Buffers) (
       × Replies (s .table) (b .part ++ take (r .consumed) piece) (r .event) bytes
       × (r .buffers .reply ≡ over bytes (lent .reply))
       × (written s piece r ≡ length bytes)
-  -- the work buffer at exit: the data that this call consumed; "nothing else is written there"
+  -- the work buffer at exit: what this call consumed of a body; "nothing else is written there"
   pub work : let r = feedOf s lent piece time in
-      r .buffers .work ≡ sets (lent .work) (placeOf (b .part)) (dataIn (b .part) (take (r .consumed) piece))
+      r .buffers .work ≡ sets (lent .work) (placeOf (b .part)) (bodyIn (b .part) (take (r .consumed) piece))
 
 -- The status sent: -121 exactly for a short read, that is a completion with status 0 and an actual length below the transfer's length, of a
 -- non-isochronous IN URB with the flag URB_SHORT_NOT_OK; of any other completion the status given.
@@ -240,10 +291,22 @@ SentAs u c status =
     let short = ShortRead (u .transfer) (c .status) (c .actual) in
     (short → status ≡ minus Codes.EREMOTEIO) × ((short → ⊥) → status ≡ c .status)
 
--- The reply to the completion of a URB: RET_SUBMIT under the URB's own seqnum, with the status sent.
+-- The reply to the completion of a URB: RET_SUBMIT under the URB's own seqnum, with the status sent and the number of packets whose status
+-- isn't 0; and a descriptor for each packet, with its offset and length as recorded and what the completion says of it.
 abbrev pub headerFor : Urb → Completion → (status : ℕ) → List ℕ
 headerFor u c status =
-    retSubmit (record { seqnum = seqnumOf u; status = status; actual = c .actual; start = u .transfer .start; packets = u .transfer .packets })
+    retSubmit
+    (record {
+      seqnum = seqnumOf u;
+      status = status;
+      actual = c .actual;
+      start = u .transfer .start;
+      packets = u .transfer .packets;
+      errors = errors (resultsIn (c .kind));
+    })
+
+abbrev pub descriptorsFor : Urb → Completion → List ℕ
+descriptorsFor u c = descriptorsOf (u .iso) (resultsIn (c .kind))
 
 pub record RightComplete (s : Sess) (b : Book) (c : Completion) : Type 0 where
   pub refuses : (n : ℕ) → completeOf s c .answer ≡ refused n
@@ -253,9 +316,9 @@ pub record RightComplete (s : Sess) (b : Book) (c : Completion) : Type 0 where
       × ((u : Urb)
       × Pending (b .items) u
       × (ticketOf u ≡ c .ticket)
-      × (r .wire ≡ wireLength (u .transfer .direction) (c .actual))
+      × (r .wire ≡ wireLength (u .transfer .direction) (c .actual) (length (resultsIn (c .kind))))
       × SentAs u c (r .status)
-      × (completeOf s c .header ≡ over (headerFor u c (r .status)) (c .header)))
+      × (completeOf s c .header ≡ over (headerFor u c (r .status) ++ descriptorsFor u c) (c .header)))
 
 pub record RightClose (s : Sess) (b : Book) : Type 0 where
   pub refuses : (n : ℕ) → closeOf s .answer ≡ refused n → Gives (closeRowsBy b) n × (closeOf s .next ≡ s)
@@ -295,7 +358,8 @@ pub record Agrees (s : Sess) (b : Book) : Type 0 where
   pub none-waiting : s .link .phase ≡ Limits.WAITING → b .items ≡ []
   -- the message in progress is what was consumed for it
   pub heading : length (b .part) < Codes.HEADER-LEN → s .link .message ≡ partly (b .part)
-  pub bodied : Codes.HEADER-LEN ≤ length (b .part) → s .link .message ≡ headed (headerOf (header (b .part))) (length (b .part) - Codes.HEADER-LEN)
+  pub bodied : Codes.HEADER-LEN ≤ length (b .part) → s .link .message
+      ≡ headed (headerOf (header (b .part))) (length (b .part) - Codes.HEADER-LEN) (drop (descriptorsAt (header (b .part))) (b .part))
 
 -- Each item keeps its record, and its fate unless that was pending; new ones come behind.
 abbrev pub Kept : Item → Item → Type 0

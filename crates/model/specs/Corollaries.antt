@@ -1,13 +1,13 @@
 -- What follows from the claim about every list of calls, in the words of the mission: a late ticket is refused, a submit is
 -- accepted exactly when the rules allow it, a feed consumes one message; and what opening gives, from which each run starts.
-use Prim.Native.Nat.{ℕ, suc, _+_, _-_, _≤_, _<_}
+use Prim.Native.Nat.{ℕ, suc, _+_, _-_, _*_, _≤_, _<_}
 use mathlib.Core.Path.{_≡_}
 use mathlib.Core.Bool.{true, false, cond}
 use mathlib.Core.List.{List, [], _∷_, _++_, List·Memᴰ}
 use mathlib.Core.Logic.{_↔_, _⊎_}
 use mathlib.Core.Option.{Option, some}
 use lib.Dec.{eqb}
-use lib.ListN.{length, take, getD}
+use lib.ListN.{length, take, drop, getD}
 use Rattle.wire.specs.Codes
 use Rattle.messages.specs.Messages.{requestOf, headerOf}
 use Rattle.exports.specs.Devices.{noDevice, devicesOf}
@@ -25,10 +25,10 @@ use Rattle.verdicts.specs.declared.verdict.Fault.{Fault}
 use Rattle.model.specs.State.{Sess, End}
 use Rattle.model.specs.Answers.{Outcome, refused, done, Returned, Event, hungry, list, import, submit, answer, unlink, break}
 use Rattle.model.specs.Judging.{urbOf}
-use Rattle.model.specs.Acts.{between, Buffers, Completion, feedOf, refusedFeed, completeOf, closeOf, Open, openOf}
+use Rattle.model.specs.Acts.{between, Buffers, resultsIn, Completion, feedOf, refusedFeed, completeOf, closeOf, Open, openOf}
 use Rattle.model.specs.Book.{Call, feed, Book, opened, Item, item, over, keep, pendingOf, Pending, NonePending}
 use Rattle.model.specs.Claims.{entryOf, nextOf, header, messageLen, byPhase, feedRowsBy, completionRowsBy, closeRowsBy, headerRowsBy, submitRowsBy}
-use Rattle.model.specs.Claims.{SentAs, headerFor}
+use Rattle.model.specs.Claims.{descriptorsAt, SentAs, headerFor, descriptorsFor}
 
 -- ## The run of the definitions, and the book kept from it
 
@@ -122,20 +122,25 @@ CancelledTicket = (t : Table) (cs later : List Call) (p : List ℕ) (lent : Buff
 
 -- ## Sending
 
--- After every list of calls: an accepted completion, sent with n = its wire length less 48, puts out exactly the 48 bytes of its own
--- URB's RET_SUBMIT, with the status that it answered, and, for IN, the first actual_length bytes of the device's data, also of a short
--- read: in order, whatever each step may send, and within as many steps as there are bytes if each may send one. After the reply to an OUT
--- nothing follows.
+-- After every list of calls: an accepted completion, sent with the count of its packets and n = its wire length less 48 and less 16 a
+-- packet, puts out exactly the 48 bytes of its own URB's RET_SUBMIT, with the status that it answered, then, for IN, the first
+-- actual_length bytes of the device's data, also of a short read, then the descriptors of the URB's packets: in order, whatever each step may
+-- send, and within as many steps as there are bytes if each may send one. An OUT has no data.
 pub record Sent (is : List Item) (c : Completion) (r : Returned) (header : List ℕ) : Type 0 where
   pub urb : Urb
   pub held : Pending is urb
   pub named : ticketOf urb ≡ c .ticket
   pub status : SentAs urb c (r .status)
   pub reads : urb .transfer .direction ≡ Codes.DIR-IN
-      → Sends (partOf header (c .payload) (r .wire - Codes.HEADER-LEN)) (headerFor urb c (r .status) ++ take (c .actual) (c .payload))
-      (Codes.HEADER-LEN + c .actual)
+      → let p = length (resultsIn (c .kind)) in
+      Sends (partOf header (c .payload) (r .wire - Codes.HEADER-LEN - p * Codes.DESCRIPTOR-LEN) p)
+      (headerFor urb c (r .status) ++ take (c .actual) (c .payload) ++ descriptorsFor urb c)
+      (Codes.HEADER-LEN + c .actual + p * Codes.DESCRIPTOR-LEN)
   pub writes : Not (urb .transfer .direction) Codes.DIR-IN
-      → Sends (partOf header (c .payload) (r .wire - Codes.HEADER-LEN)) (headerFor urb c (r .status)) Codes.HEADER-LEN
+      → let p = length (resultsIn (c .kind)) in
+      Sends (partOf header (c .payload) (r .wire - Codes.HEADER-LEN - p * Codes.DESCRIPTOR-LEN) p)
+      (headerFor urb c (r .status) ++ descriptorsFor urb c)
+      (Codes.HEADER-LEN + p * Codes.DESCRIPTOR-LEN)
 
 abbrev pub CompletionSent : Type 0
 CompletionSent = (t : Table) (cs : List Call) (c : Completion) (r : Returned)
@@ -171,12 +176,13 @@ WholeUnlink m = (headerOf (header m) .command ≡ Codes.CMD-UNLINK) × (length m
 pub record Verdict (devid time : ℕ) (is : List Item) (m : List ℕ) (event : Outcome Event) (consumed : ℕ) : Type 0 where
   pub accepted : (u : Urb)
       → (event ≡ done (submit u))
-      ↔ (Clear (headerRowsBy devid is (header m)) × Clear (submitRowsBy devid is (header m)) × (u ≡ urbOf (suc (length is)) time (headerOf (header m))))
+      ↔ (Clear (headerRowsBy devid is (header m)) × Clear (submitRowsBy devid is m)
+      × (u ≡ urbOf (suc (length is)) time (headerOf (header m)) (drop (descriptorsAt (header m)) m)))
   pub broken : (f : Fault) (ts : List ℕ)
       → (event ≡ done (break f ts)) ↔ (Gives (headerRowsBy devid is (header m)) f × (ts ≡ tickets (pendingOf is)))
   pub answered : (q st : ℕ)
       → (event ≡ done (answer q st))
-      ↔ (Clear (headerRowsBy devid is (header m)) × Gives (submitRowsBy devid is (header m)) st × (q ≡ headerOf (header m) .transfer .seqnum))
+      ↔ (Clear (headerRowsBy devid is (header m)) × Gives (submitRowsBy devid is m) st × (q ≡ headerOf (header m) .transfer .seqnum))
   -- one of the three it is, with so many bytes consumed
   pub one : ((u : Urb) × (event ≡ done (submit u)) × (consumed ≡ length m))
       ⊎ (((q : ℕ) × (st : ℕ) × (event ≡ done (answer q st)) × (consumed ≡ length m))

@@ -1,5 +1,5 @@
 -- Claims on feeding (PROTOCOL.md, 3.2 and 8): what a feed consumes, that the stream may be cut anywhere, what a feed leaves as it was.
-use Prim.Native.Nat.{ℕ, _≤_, _<_}
+use Prim.Native.Nat.{ℕ, _+_, _*_, _≤_, _<_}
 use mathlib.Core.Path.{_≡_}
 use mathlib.Core.Bool.{false}
 use mathlib.Core.List.{List, [], _∷_, _++_, map, flatten}
@@ -16,7 +16,7 @@ use Rattle.model.specs.Machine.{Fed, Ran, Piece, drainAll}
 use Rattle.model.specs.State.{Message, partly, headed, Sess, closed, headerIn, room, place}
 use Rattle.model.specs.Answers.{Outcome, refused, done, Event, hungry, list, submit, unlink, break, saysNothing}
 use Rattle.model.specs.Judging.{grow}
-use Rattle.model.specs.Acts.{replyTo, Buffers, feedOf, refusedFeed, Completion, completeOf, refusedCompletion, closeOf}
+use Rattle.model.specs.Acts.{replyTo, Buffers, feedOf, refusedFeed, Completion, resultsIn, completeOf, refusedCompletion, closeOf}
 
 -- "buffers have at least their least size"
 pub record Enough (b : Buffers) : Type 0 where
@@ -69,8 +69,8 @@ abbrev pub written : Sess → List ℕ → Feeding → ℕ
 written s piece r = length (replied s piece r)
 
 -- What it wrote before to the work buffer: of the bytes consumed, those past the message's header.
-abbrev pub dataPlaced : Sess → List ℕ → Feeding → List ℕ
-dataPlaced s piece r = drop (room (s .link .message)) (take (r .consumed) piece)
+abbrev pub bodyPlaced : Sess → List ℕ → Feeding → List ℕ
+bodyPlaced s piece r = drop (room (s .link .message)) (take (r .consumed) piece)
 
 -- ## Cutting
 
@@ -129,7 +129,7 @@ Draining = (s : Sess) (b : Buffers) (ps : Timed) → Enough b
 -- The header of the message in progress isn't whole.
 abbrev pub Heading : Message → Type 0
 Heading (partly bytes) = length bytes < Codes.HEADER-LEN
-Heading (headed h body) = ⊥
+Heading (headed h body ds) = ⊥
 
 pub record Leaving (s : Sess) (b : Buffers) (piece : List ℕ) (r : Feeding) : Type 0 where
   -- a refusal changes nothing and consumes nothing; a break changes no buffer
@@ -141,12 +141,12 @@ pub record Leaving (s : Sess) (b : Buffers) (piece : List ℕ) (r : Feeding) : T
   -- "A reply starts at 0 of the reply buffer; bytes past it don't change."
   pub reply : r .buffers .reply ≡ over (replied s piece r) (b .reply)
   -- "at its own position from 0 as it comes .. nothing else is written there"
-  pub work : r .buffers .work ≡ sets (b .work) (place (s .link .message)) (dataPlaced s piece r)
-  -- so nothing at all by a list, any other request, an unlink, a message without data
+  pub work : r .buffers .work ≡ sets (b .work) (place (s .link .message)) (bodyPlaced s piece r)
+  -- so nothing at all by a list, any other request, an unlink, a message without a body
   pub lists : r .event ≡ done list → r .buffers .work ≡ b .work
   pub requests : s .link .phase ≡ Limits.WAITING → Heading (s .link .message) → r .buffers .work ≡ b .work
   pub unlinks : (q st : ℕ) (t : Option ℕ) → r .event ≡ done (unlink q st t) → r .buffers .work ≡ b .work
-  pub dataless : Heading (s .link .message) → bodyLen (headerIn (taken s piece r .link .message)) ≡ 0 → r .buffers .work ≡ b .work
+  pub bodiless : Heading (s .link .message) → bodyLen (headerIn (taken s piece r .link .message)) ≡ 0 → r .buffers .work ≡ b .work
 
 abbrev pub Untouched : Type 0
 Untouched = (s : Sess) (b : Buffers) (piece : List ℕ) (time : ℕ) → Leaving s b piece (feedOf s b piece time)
@@ -170,10 +170,11 @@ abbrev pub WorkFree : Type 0
 WorkFree = (s : Sess) (v w reply piece : List ℕ) (time : ℕ) → length v ≡ length w
     → Alike (place (s .link .message)) v w (feedOf s (lent v reply) piece time) (feedOf s (lent w reply) piece time)
 
--- The other acts: a refusal changes nothing, and a completion writes only the header buffer's first bytes.
+-- The other acts: a refusal changes nothing, and a completion writes only the header buffer's first 48 bytes and 16 a packet.
 pub record Keeping (s : Sess) (c : Completion) : Type 0 where
   pub complete : (n : ℕ) → completeOf s c .answer ≡ refused n → completeOf s c ≡ refusedCompletion s c n
-  pub header : drop Codes.HEADER-LEN (completeOf s c .header) ≡ drop Codes.HEADER-LEN (c .header)
+  pub header : let n = Codes.HEADER-LEN + length (resultsIn (c .kind)) * Codes.DESCRIPTOR-LEN in
+      drop n (completeOf s c .header) ≡ drop n (c .header)
   pub close : (n : ℕ) → closeOf s .answer ≡ refused n → closeOf s .next ≡ s
 
 abbrev pub Keeps : Type 0

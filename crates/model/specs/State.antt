@@ -5,8 +5,10 @@ use mathlib.Core.List.{List, []}
 use lib.Dec.{eqb}
 use lib.ListN.{length}
 use Rattle.wire.specs.Codes
-use Rattle.messages.specs.Messages.{blankHeader}
+use Rattle.messages.specs.Messages.{blankHeader, isoCount}
 use Rattle.messages.specs.declared.message.Header.{Header}
+use Rattle.packets.specs.Packets.{packetsOf}
+use Rattle.packets.specs.declared.packet.Packet.{Packet}
 use Rattle.exports.specs.declared.device.Table.{Table}
 use Rattle.pending.specs.declared.urb.Urb.{Urb}
 use Rattle.pending.specs.declared.counts.Counts.{Counts}
@@ -14,10 +16,10 @@ use Rattle.pending.specs.declared.counts.Numbers.{Numbers}
 use Rattle.limits.specs.Limits
 
 -- The message in progress: the bytes that came, as long as its header isn't whole (a request never gets further); then the header, read,
--- and how many bytes of the body came.
+-- how many bytes of the body came, and those of them that are descriptors', which stand behind the data.
 pub data Message : Type 0 where
   partly : (bytes : List ℕ) → Message
-  headed : Header → (body : ℕ) → Message
+  headed : Header → (body : ℕ) → (descriptors : List ℕ) → Message
 
 -- The link to the client: WAITING, ATTACHED or CLOSED; the devid of the device that is attached; the message in progress; how many URBs
 -- were ever accepted, and what became of those that are no longer pending.
@@ -69,26 +71,35 @@ attachedAs devid k = record { phase = Limits.ATTACHED; devid = devid; message = 
 
 -- ## The message in progress
 
+-- The packets of a submit, by the bytes of its descriptors.
+abbrev pub submitPackets : Header → (descriptors : List ℕ) → List Packet
+submitPackets h ds = packetsOf (isoCount (h .transfer .packets)) ds
+
 abbrev pub noMessage : Message
 noMessage = partly []
 
 -- What came of a request; a message's header, blank as long as it isn't whole.
 abbrev pub bytesIn : Message → List ℕ
 bytesIn (partly bytes) = bytes
-bytesIn (headed h body) = []
+bytesIn (headed h body ds) = []
 
 abbrev pub headerIn : Message → Header
 headerIn (partly bytes) = blankHeader
-headerIn (headed h body) = h
+headerIn (headed h body ds) = h
+
+-- The packets that its descriptors say, when they are all in.
+abbrev pub packetsIn : Message → List Packet
+packetsIn (partly bytes) = []
+packetsIn (headed h body ds) = submitPackets h ds
 
 -- How many bytes the header still takes, the next one at least; where the next byte of the body goes.
 abbrev pub room : Message → ℕ
 room (partly bytes) = suc (Codes.HEADER-LEN - suc (length bytes))
-room (headed h body) = 0
+room (headed h body ds) = 0
 
 abbrev pub place : Message → ℕ
 place (partly bytes) = 0
-place (headed h body) = body
+place (headed h body ds) = body
 
 -- ## The counts
 

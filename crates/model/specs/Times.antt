@@ -14,7 +14,7 @@ use Rattle.model.specs.Corollaries.{sessionFrom}
 -- ## With every time 0
 
 abbrev pub untimedUrb : Urb → Urb
-untimedUrb u = record { ticket = u .ticket; transfer = u .transfer; setup = u .setup; arrival = 0 }
+untimedUrb u = record { ticket = u .ticket; transfer = u .transfer; setup = u .setup; arrival = 0; iso = u .iso }
 
 abbrev pub untimed : Sess → Sess
 untimed s = withPend (map untimedUrb (s .pend)) s

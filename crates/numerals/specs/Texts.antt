@@ -1,10 +1,10 @@
 -- Lines, and the text that the code puts together by value.
-use Prim.Native.Nat.{ℕ, _+_, _*_, _≤_}
+use Prim.Native.Nat.{ℕ, _+_, _*_, _≤_, max}
 use Prim.Native.String.{String}
 use mathlib.Core.Path.{_≡_}
 use mathlib.Core.List.{List, [], _∷_, _++_}
 use lib.ListN.{take}
-use Rattle.limits.specs.Limits.{MAX-PENDING}
+use Rattle.limits.specs.Limits.{MAX-PENDING, MAX-PACKETS}
 use Rattle.numerals.specs.Digits.{ascii}
 use Rattle.numerals.specs.declared.text.Text.{Text}
 
@@ -33,9 +33,16 @@ LINE-LEN = WORD-LEN + 5 * FIELD-LEN + 1
 abbrev pub DROPPED-LEN : ℕ
 DROPPED-LEN = WORD-LEN + FIELD-LEN + 1
 
--- The most that a text holds: a line and those of all that can be dropped.
+-- A line and those of all that can be dropped; a line of all packets, two fields each.
+abbrev pub DROPS-LEN : ℕ
+DROPS-LEN = LINE-LEN + MAX-PENDING * DROPPED-LEN
+
+abbrev pub PACKETS-LEN : ℕ
+PACKETS-LEN = WORD-LEN + MAX-PACKETS * (2 * FIELD-LEN) + 1
+
+-- The most that a text holds: the longer of them.
 abbrev pub TEXT-LEN : ℕ
-TEXT-LEN = LINE-LEN + MAX-PENDING * DROPPED-LEN
+TEXT-LEN = max DROPS-LEN PACKETS-LEN
 
 unfoldable pub textOf : Text → List ℕ
 textOf t = take (t .len) (t .bytes)

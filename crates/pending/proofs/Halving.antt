@@ -137,7 +137,7 @@ module _ (k n : ℕ) (us : List Urb) (s : Search) (fits : n ≤ length us) where
 
     pub found-look : s .found ≡ true
         → let u = getD us (s .low) noUrb in
-        _≡_ {A = Look} (record { found = true; place = s .low; ticket = ticketOf u; transfer = u .transfer }) (lookFor (take n us) (Ticket k))
+        _≡_ {A = Look} (record { found = true; place = s .low; ticket = ticketOf u; transfer = u .transfer; iso = u .iso }) (lookFor (take n us) (Ticket k))
     found-look f = rw (← h, f, getD-take n us (s .low) noUrb (found-place f))
 
     pub lost-look : s .found ≡ false → noLook ≡ lookFor (take n us) (Ticket k)

@@ -2,22 +2,25 @@
 use Prim.Native.Nat.{ℕ}
 use mathlib.Core.Bool.{true, false}
 use mathlib.Core.List.{List}
-use lib.ListN.{getD}
+use lib.ListN.{getD, replicate}
 use Rattle.pending.specs.declared.urb.Urb.{Urb}
 use Rattle.pending.specs.declared.look.Look.{Look}
 use Rattle.pending.specs.declared.look.Key.{Key}
 use Rattle.pending.specs.declared.look.Key.the-variants.{Nothing as NoKey, Seqnum, Ticket}
-use Rattle.limits.specs.Limits.{MAX-PENDING}
+use Rattle.limits.specs.Limits.{MAX-PACKETS, MAX-PENDING}
+use Rattle.packets.specs.Packets.{noPacket}
 use Rattle.pending.specs.Pending.{ticketOf, seqnumOf, noTransfer, noUrb, Place, At, Nothing, placeBy, ticketPlace}
 
 -- None was found.
 abbrev pub noLook : Look
-noLook = record { found = false; place = MAX-PENDING; ticket = 0; transfer = noTransfer }
+noLook = record { found = false; place = MAX-PENDING; ticket = 0; transfer = noTransfer; iso = replicate MAX-PACKETS noPacket }
 
 -- What is seen at a place.
 abbrev pub lookAt : List Urb → Place → Look
 lookAt us Nothing = noLook
-lookAt us (At i) = record { found = true; place = i; ticket = ticketOf (getD us i noUrb); transfer = getD us i noUrb .transfer }
+lookAt us (At i) =
+    let u = getD us i noUrb in
+    record { found = true; place = i; ticket = ticketOf u; transfer = u .transfer; iso = u .iso }
 
 -- The first that has a key.
 abbrev pub lookBy : (Urb → ℕ) → ℕ → List Urb → Look

@@ -8,7 +8,8 @@ use lib.Dec.{eqb}
 use lib.ListN.{length, take, drop, getD, replicate}
 use Rattle.wire.specs.Codes.{SETUP-LEN}
 use Rattle.messages.specs.declared.message.Transfer.{Transfer}
-use Rattle.limits.specs.Limits.{MAX-PENDING}
+use Rattle.limits.specs.Limits.{MAX-PACKETS, MAX-PENDING}
+use Rattle.packets.specs.Packets.{noPacket}
 use Rattle.ground.specs.Lists.{Rising}
 use Rattle.halving.specs.declared.Search.{Search}
 use Rattle.halving.specs.Halving.{halved}
@@ -29,11 +30,11 @@ noTransfer = record { seqnum = 0; direction = 0; ep = 0; flags = 0; length = 0; 
 
 -- What is read past the end of a list.
 abbrev pub noUrb : Urb
-noUrb = record { ticket = 0; transfer = noTransfer; setup = []; arrival = 0 }
+noUrb = record { ticket = 0; transfer = noTransfer; setup = []; arrival = 0; iso = [] }
 
 -- What stands in a free place of the array.
 abbrev pub blank : Urb
-blank = record { ticket = 0; transfer = noTransfer; setup = replicate SETUP-LEN 0; arrival = 0 }
+blank = record { ticket = 0; transfer = noTransfer; setup = replicate SETUP-LEN 0; arrival = 0; iso = replicate MAX-PACKETS noPacket }
 
 -- ## A list of URBs
 

@@ -8,8 +8,11 @@ use halving::binary_digits;
 use halving::goes_on;
 use halving::look;
 use halving::middle;
+use limits::MAX_PACKETS;
 use limits::MAX_PENDING;
 use messages::message::Transfer;
+use packets::packet::Packet;
+use packets::packet::no_packets;
 ghost use mathlib.Core.Path.{_≡_};
 ghost use Prim.Native.Nat.{_≤_};
 ghost use lib.ListN.{take};
@@ -26,13 +29,14 @@ pub enum Key {
     Ticket(u64),
 }
 
-// The URB that has the key: whether there is one, its place, its ticket and its transfer; where there is none, the place is
-// MAX_PENDING and the numbers are 0.
+// The URB that has the key: whether there is one, its place, its ticket, its transfer and its packets; where there is none, the place
+// is MAX_PENDING and the numbers are 0.
 pub struct Look {
     pub found: bool,
     pub place: usize,
     pub ticket: u64,
     pub transfer: Transfer,
+    pub iso: [Packet; MAX_PACKETS],
 }
 
 fn no_look() -> Look
@@ -43,6 +47,7 @@ fn no_look() -> Look
         place: MAX_PENDING,
         ticket: 0,
         transfer: no_transfer(),
+        iso: no_packets(),
     }
 }
 
@@ -56,11 +61,13 @@ fn look_seqnum(urbs: [Urb; MAX_PENDING], count: usize, seqnum: u32) -> Look
         let u = urbs[i];
         let transfer = u.transfer;
         if transfer.seqnum == seqnum {
+            let iso = u.iso;
             return Look {
                 found: true,
                 place: i,
                 ticket: u.ticket,
                 transfer: transfer,
+                iso: iso,
             };
         }
         i += 1;
@@ -100,11 +107,13 @@ fn look_ticket(urbs: [Urb; MAX_PENDING], count: usize, ticket: u64) -> Look
         let place = s.low;
         let u = urbs[place];
         let transfer = u.transfer;
+        let iso = u.iso;
         return Look {
             found: true,
             place: place,
             ticket: u.ticket,
             transfer: transfer,
+            iso: iso,
         };
     }
     no_look()

@@ -3,10 +3,10 @@ use Prim.Native.Nat.{ℕ}
 use mathlib.Core.Path.{_≡_, refl, ap, subst}
 use mathlib.Core.Bool.{Bool}
 use mathlib.Core.List.{List}
-use lib.ListN.{replicate}
-use Rattle.wire.specs.Codes
+use lib.ListN.{length, replicate}
+use Rattle.limits.specs.Limits
 use Rattle.model.specs.State.{Sess}
-use Rattle.model.specs.Acts.{Buffers, Complete, Close, completeOf, closeOf}
+use Rattle.model.specs.Acts.{Buffers, Kind, resultsIn, Complete, Close, completeOf, closeOf}
 use Rattle.events.specs.Answers.{completionOf, closingOf}
 use Rattle.session.specs.Views.{completedAs, closedAs, handed}
 use Rattle.session.specs.declared.answer.Completed.{Completed}
@@ -19,17 +19,20 @@ use Rattle.player.specs.Play.{playCompletion, playClose, playRecord}
 use Rattle.player.specs.Played.{Plays}
 use Rattle.player.specs.declared.record.Played.{Played}
 
-pub completion-played : (traced : Bool) (ticket status actual : ℕ) (r : Completed) (s : Sess) (payload left entry exit : List ℕ) (len : ℕ)
+pub completion-played : (traced : Bool) (kind : Kind) (packets ticket status actual : ℕ) (r : Completed) (s : Sess)
+    (payload left entry exit : List ℕ) (len : ℕ)
     → payload ≡ deviceData
-    → completedAs r left ≡ completeOf s (handed ticket status actual payload (replicate Codes.HEADER-LEN 0))
-    → Puts (completionText traced ticket actual (completionOf (r .answer)) left) entry exit len
-    → (b : Buffers) → Plays (record { session = r .session; len = len }) (playCompletion traced ticket status actual s b) b entry exit
-completion-played traced ticket status actual r s payload left entry exit len f e p b =
-    let d : completedAs r left ≡ completeOf s (handed ticket status actual deviceData (replicate Codes.HEADER-LEN 0)) = rw f at e in
+    → packets ≡ length (resultsIn kind)
+    → completedAs r left ≡ completeOf s (handed kind ticket status actual payload (replicate Limits.HEADER-ROOM 0))
+    → Puts (completionText traced packets ticket actual (completionOf (r .answer)) left) entry exit len
+    → (b : Buffers) → Plays (record { session = r .session; len = len }) (playCompletion traced kind ticket status actual s b) b entry exit
+completion-played traced kind packets ticket status actual r s payload left entry exit len f n e p b =
+    let d : completedAs r left ≡ completeOf s (handed kind ticket status actual deviceData (replicate Limits.HEADER-ROOM 0)) = rw f at e in
+    let text = completionText traced (length (resultsIn kind)) ticket actual in
     record {
       next = ap (λ (x : Complete). x .next) d;
       buffers = refl;
-      lines = subst (λ (x : Complete). Puts (completionText traced ticket actual (x .answer) (x .header)) entry exit len) d p;
+      lines = subst (λ (x : Complete). Puts (text (x .answer) (x .header)) entry exit len) d (rw n at p);
     }
 
 pub close-played : (r : Closed) (s : Sess) (entry exit : List ℕ) (len : ℕ)

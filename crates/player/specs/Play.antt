@@ -4,17 +4,17 @@ use mathlib.Core.Bool.{Bool, true, false, cond, not, _||_}
 use mathlib.Core.List.{List, [], _++_}
 use lib.Dec.{eqb}
 use lib.ListN.{length, drop, replicate}
-use Rattle.wire.specs.Codes
+use Rattle.limits.specs.Limits
 use Rattle.model.specs.State.{Sess}
 use Rattle.model.specs.Answers.{Outcome, refused, done, Event, hungry, list, import, submit, answer, unlink, break}
-use Rattle.model.specs.Acts.{Buffers, completeOf, closeOf}
+use Rattle.model.specs.Acts.{Buffers, Kind, plain, isochronous, resultsIn, completeOf, closeOf}
 use Rattle.events.specs.Plans.{Result}
 use Rattle.feeding.specs.Feeding.{fedOf}
 use Rattle.session.specs.Views.{handed}
-use Rattle.tape.specs.Tape.{streamOf}
+use Rattle.tape.specs.Tape.{streamOf, isoResults, isoTotal}
 use Rattle.tape.specs.Table.{deviceData}
 use Rattle.tape.specs.declared.reader.Record.{Record}
-use Rattle.tape.specs.declared.reader.Record.the-variants.{Stream, Completion, Close}
+use Rattle.tape.specs.declared.reader.Record.the-variants.{Stream, Completion, Iso, Close}
 use Rattle.lines.specs.Lines.{closeLines}
 use Rattle.player.specs.Prints.{feedText, completionText}
 
@@ -59,11 +59,11 @@ playStream traced (suc turns) s b bytes =
 
 -- ## A completion and a close
 
--- The device's data are the tape's zeros; the header buffer is a fresh one of 48 bytes.
-abbrev pub playCompletion : Bool → (ticket status actual : ℕ) → Sess → Buffers → Play
-playCompletion traced ticket status actual s b =
-    let r = completeOf s (handed ticket status actual deviceData (replicate Codes.HEADER-LEN 0)) in
-    record { text = completionText traced ticket actual (r .answer) (r .header); next = r .next; buffers = b }
+-- Of either kind. The device's data are the tape's zeros; the header buffer is a fresh one of the least size.
+abbrev pub playCompletion : Bool → Kind → (ticket status actual : ℕ) → Sess → Buffers → Play
+playCompletion traced kind ticket status actual s b =
+    let r = completeOf s (handed kind ticket status actual deviceData (replicate Limits.HEADER-ROOM 0)) in
+    record { text = completionText traced (length (resultsIn kind)) ticket actual (r .answer) (r .header); next = r .next; buffers = b }
 
 abbrev pub playClose : Sess → Buffers → Play
 playClose s b = let r = closeOf s in record { text = closeLines (r .answer); next = r .next; buffers = b }
@@ -72,5 +72,7 @@ playClose s b = let r = closeOf s in record { text = closeLines (r .answer); nex
 
 abbrev pub playRecord : Bool → Record → List ℕ → Sess → Buffers → Play
 playRecord traced (Stream count) bytes s b = playStream traced (length (streamOf count bytes)) s b (streamOf count bytes)
-playRecord traced (Completion ticket status actual) bytes s b = playCompletion traced ticket status actual s b
+playRecord traced (Completion ticket status actual) bytes s b = playCompletion traced plain ticket status actual s b
+playRecord traced (Iso ticket status count) bytes s b =
+    let rs = isoResults count bytes in playCompletion traced (isochronous rs) ticket status (isoTotal rs) s b
 playRecord traced Close bytes s b = playClose s b

@@ -10,7 +10,7 @@ use Rattle.ground.specs.Writing.{over}
 use Rattle.pending.specs.declared.urb.Urb.{Urb}
 use Rattle.model.specs.Answers.{Outcome, refused, done, Returned, Event, hungry, list, import, submit, answer, unlink, break}
 use Rattle.lines.specs.Lines.{feedLines, completionLines}
-use Rattle.traces.specs.Traces.{feedTrace, recordTrace, dataTrace, removedTrace, headerTrace}
+use Rattle.traces.specs.Traces.{feedTrace, recordTrace, dataTrace, packetsTrace, removedTrace, headerTrace}
 
 -- Lines are put at the front of a buffer: as many bytes as are said, which the buffer has; and where it has room for all the
 -- lines, they stand there whole, and the rest is unchanged.
@@ -28,9 +28,12 @@ withTraces traced lines traces = lines ++ cond traced traces []
 abbrev pub dataLength : (direction length : ℕ) → ℕ
 dataLength direction length = cond (eqb direction Codes.DIR-OUT) length 0
 
--- What a trace adds for an accepted submit: its record, and its data in the work buffer.
+-- What a trace adds for an accepted submit: its record, its data in the work buffer, and its packets.
+abbrev pub dataTraces : Urb → (work : List ℕ) → List ℕ
+dataTraces u work = recordTrace u ++ dataTrace (take (dataLength (u .transfer .direction) (u .transfer .length)) work)
+
 abbrev pub submitTraces : Urb → (work : List ℕ) → List ℕ
-submitTraces u work = recordTrace u ++ dataTrace (take (dataLength (u .transfer .direction) (u .transfer .length)) work)
+submitTraces u work = dataTraces u work ++ packetsTrace (u .transfer .packets) (u .iso)
 
 -- What it adds for an event: besides, the ticket that an unlink removed.
 abbrev pub eventTraces : Outcome Event → (work : List ℕ) → List ℕ
@@ -50,7 +53,7 @@ feedTraces o consumed length work reply = feedTrace consumed length (take length
 abbrev pub feedText : Bool → Outcome Event → (consumed length : ℕ) → (work reply : List ℕ) → List ℕ
 feedText traced o consumed length work reply = withTraces traced (feedLines o) (feedTraces o consumed length work reply)
 
--- ## A completion, with the header that it left
+-- ## A completion of so many packets, with the header that it left
 
-abbrev pub completionText : Bool → (ticket actual : ℕ) → Outcome Returned → (header : List ℕ) → List ℕ
-completionText traced ticket actual o header = withTraces traced (completionLines ticket actual o) (headerTrace o header)
+abbrev pub completionText : Bool → (packets ticket actual : ℕ) → Outcome Returned → (header : List ℕ) → List ℕ
+completionText traced packets ticket actual o header = withTraces traced (completionLines ticket actual o) (headerTrace packets o header)

@@ -9,6 +9,7 @@ ghost use lib.Dec.{eqb};
 ghost use mathlib.Core.Path.{_≡_};
 ghost use mathlib.Core.List.{List};
 ghost use lib.ListN.{length};
+ghost use Rattle.packets.specs.declared.packet.Packet.{Packet};
 ghost use Rattle.pending.specs.declared.list.Tickets.{Tickets};
 ghost use Rattle.model.specs.Cut.{lent};
 ghost use Rattle.events.specs.Answers.{eventOf};
@@ -19,7 +20,7 @@ ghost use Rattle.player.specs.Played.{Tells, Plays};
 
 // Whether nothing more of a record is fed after an event.
 fn is_end(event: Event) -> bool
-    ensures { λ r. ⌜ ((setup : List ℕ) (dropped : Tickets) → r ≡ endsStream (eventOf event setup dropped)) ⌝ }
+    ensures { λ r. ⌜ ((setup : List ℕ) (iso : List Packet) (dropped : Tickets) → r ≡ endsStream (eventOf event setup iso dropped)) ⌝ }
 {
     match event {
         Event::Hungry => false,

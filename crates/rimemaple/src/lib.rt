@@ -26,25 +26,30 @@ pub use limits::MAX_INTERFACES;
 pub use limits::PATH_LEN;
 pub use wire::codes::BUSID_LEN;
 
-// A transfer that the device side starts, and those that it drops.
+// A transfer that the device side starts, what it says of an isochronous one's packets, and those that it drops.
+pub use limits::MAX_PACKETS;
 pub use limits::MAX_PENDING;
 pub use limits::MAX_TRANSFER;
 pub use messages::message::Transfer;
+pub use packets::packet::Packet;
 pub use pending::list::Tickets;
 pub use pending::urb::Urb;
+pub use results::PacketResult;
+pub use results::Results;
 pub use wire::codes::DIR_IN;
 pub use wire::codes::DIR_OUT;
 pub use wire::codes::SETUP_LEN;
 
 // The lent buffers, and the part of a reply that is sent next.
+pub use limits::HEADER_ROOM;
 pub use limits::REPLY_LEN;
 pub use limits::WORK_LEN;
 pub use transmit::part;
+pub use wire::codes::DESCRIPTOR_LEN;
 pub use wire::codes::HEADER_LEN;
 pub use wire::codes::OP_LEN;
 
 // Statuses, refusals, and the faults that break a session.
-pub use limits::ACTUAL_TOO_LONG;
 pub use limits::BAD_CODE;
 pub use limits::BAD_COMMAND;
 pub use limits::BAD_DEVID;
@@ -54,6 +59,7 @@ pub use limits::BAD_PACKETS;
 pub use limits::BAD_TABLE;
 pub use limits::BAD_VERSION;
 pub use limits::DIRTY_PADDING;
+pub use limits::MISFIT;
 pub use limits::NOT_PENDING;
 pub use limits::SEQNUM_PENDING;
 pub use limits::SESSION_CLOSED;

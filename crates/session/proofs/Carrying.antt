@@ -3,10 +3,12 @@ use Prim.Native.Nat.{ℕ, _≤_}
 use mathlib.Core.Path.{_≡_, sym, ap, subst, _∙_}
 use mathlib.Core.Bool.{cond}
 use mathlib.Core.List.{List}
-use lib.ListN.{length}
+use lib.ListN.{length, take}
 use lib.Seq.{sets}
 use Rattle.ground.specs.Writing.{over, Wrote}
-use Rattle.messages.specs.Messages.{retSubmit}
+use Rattle.messages.specs.Messages.{isoCount}
+use Rattle.results.specs.declared.PacketResult.{PacketResult}
+use Rattle.replies.specs.Replies.{submitReply}
 use Rattle.ground.proofs.Parts.{wrote-all, wrote-count}
 use Rattle.pending.specs.Changes.{changed, keeps}
 use Rattle.pending.specs.Looks.{lookFor}
@@ -31,12 +33,13 @@ use Rattle.feeding.specs.Feeding.{Arrays, Composed}
 use Rattle.feeding.specs.Planning.{messagePlan, requestPlan}
 use Rattle.feeding.specs.declared.ask.Asked.{Asked}
 use Rattle.feeding.proofs.Acts.{message-composed, request-composed}
-use Rattle.settling.specs.Settling.{completionPlan, CompletionDone, closePlan, CloseDone}
+use Rattle.settling.specs.Settling.{completionPlan, givenFor, CompletionDone, closePlan, CloseDone}
 use Rattle.settling.specs.declared.close.ClosePlan.{ClosePlan}
 use Rattle.settling.specs.declared.completion.CompletionPlan.{CompletionPlan}
+use Rattle.settling.specs.declared.completion.Given.{Given}
 use Rattle.settling.proofs.Acts.{completion-composed, close-composed}
 use Rattle.session.specs.Acts.{Feeds, Completes, Closes}
-use Rattle.session.specs.Views.{Tidy}
+use Rattle.session.specs.Views.{Tidy, answerOf}
 use Rattle.session.proofs.Planning.{planned-by}
 use Rattle.session.specs.declared.state.Session.{Session}
 
@@ -59,11 +62,11 @@ module _ (s : Session) (piece : List ℕ) (b : Buffers) (time : ℕ) (h : Arrays
   pub message-planned : (a : Asked) (y : Look) (r : Plan) → (s .link .phase ≡ Limits.WAITING → ⊥)
       → a ≡ askOf (s .link) piece
       → y ≡ lookFor (listOf (s .pending)) (a .key)
-      → r ≡ messagePlan (s .link) (s .pending .count) a y (length piece) (length (b .work)) (length (b .reply)) time
-      → Composed r (replyBytes (r .reply)) (s .table) (s .link) (s .pending) piece b time
+      → r ≡ messagePlan (s .link) (s .pending .count) a y piece (length (b .work)) (length (b .reply)) time
+      → Composed r (replyBytes (r .iso) (r .reply)) (s .table) (s .link) (s .pending) piece b time
   message-planned a y r w e f g =
       let h′ = g ∙ planned-by (s .link) (s .pending) piece (length (b .work)) (length (b .reply)) time a y e f in
-      subst (λ (z : Plan). Composed z (replyBytes (z .reply)) (s .table) (s .link) (s .pending) piece b time) (sym h′)
+      subst (λ (z : Plan). Composed z (replyBytes (z .iso) (z .reply)) (s .table) (s .link) (s .pending) piece b time) (sym h′)
       (message-composed (s .table) (s .link) (s .pending) piece b time h w)
 
   pub request-planned : (r : RequestPlan) → length (s .table .devices) ≡ Limits.MAX-DEVICES → s .link .phase ≡ Limits.WAITING
@@ -85,7 +88,7 @@ pub feeds-by : (s : Session) (piece : List ℕ) (b exit : Buffers) (time : ℕ) 
     → Feeds s piece b exit time
     (record {
       session = record { table = s .table; link = q .link; pending = l };
-      answer = record { event = q .event; consumed = q .consumed; length = n; setup = q .setup };
+      answer = answerOf q n;
       dropped = ts;
     })
 feeds-by s piece b exit time q bytes l ts n w k e d c wrote small =
@@ -94,8 +97,9 @@ feeds-by s piece b exit time q bytes l ts n w k e d c wrote small =
       said =
           (λ i.
           record {
-            event = eventOf (q .event) (q .setup) (d i);
-            setup = q .setup;
+            event = eventOf (q .event) (q .change .urb .setup) (q .change .urb .iso) (d i);
+            setup = q .change .urb .setup;
+            iso = q .change .urb .iso;
             dropped = d i;
             consumed = q .consumed;
             length = wrote-count bytes (b .reply) (exit .reply) n room wrote i;
@@ -109,37 +113,33 @@ feeds-by s piece b exit time q bytes l ts n w k e d c wrote small =
 
 -- ## A completion and a close
 
-pub completion-planned : (s : Session) (c : Completion) (y : Look) (q : CompletionPlan)
-    → Whole (s .pending)
-    → s .link .counts .accepted ≤ Limits.LAST-TICKET
-    → y ≡ lookFor (listOf (s .pending)) (Ticket (c .ticket))
-    → q ≡ completionPlan (s .link) (s .pending .count) y (record { status = c .status; actual = c .actual }) (length (c .payload)) (length (c .header))
-    → CompletionDone q (s .table) (s .link) (s .pending) c
-completion-planned s c y q w n f g =
-    subst (λ (r : CompletionPlan). CompletionDone r (s .table) (s .link) (s .pending) c) (sym (g ∙ ap plan f))
-    (completion-composed (s .table) (s .link) (s .pending) c w n)
-  where
-    plan : Look → CompletionPlan
-    plan z = completionPlan (s .link) (s .pending .count) z (record { status = c .status; actual = c .actual }) (length (c .payload)) (length (c .header))
+module _ (s : Session) (given : Given) (ticket : ℕ) (payload header : List ℕ) (y : Look) (q : CompletionPlan) (w : Whole (s .pending))
+    (a : length (given .results .list) ≡ Limits.MAX-PACKETS) (n : s .link .counts .accepted ≤ Limits.LAST-TICKET)
+    (f : y ≡ lookFor (listOf (s .pending)) (Ticket ticket))
+    (g : q ≡ completionPlan (s .link) (s .pending .count) y given (length payload) (length header)) where
+  abbrev rs : List PacketResult
+  rs = given .results .list
 
-pub completes-by : (s : Session) (c : Completion) (header : List ℕ) (y : Look) (q : CompletionPlan) (l : Pending)
-    → Whole (s .pending)
-    → s .link .counts .accepted ≤ Limits.LAST-TICKET
-    → y ≡ lookFor (listOf (s .pending)) (Ticket (c .ticket))
-    → q ≡ completionPlan (s .link) (s .pending .count) y (record { status = c .status; actual = c .actual }) (length (c .payload)) (length (c .header))
-    → l ≡ changed (s .pending) (q .change)
-    → header ≡ cond (q .good) (over (retSubmit (q .ret)) (c .header)) (c .header)
-    → Completes s c header (record { session = record { table = s .table; link = q .link; pending = l }; answer = q .answer })
-completes-by s c header y q l w n f g e h =
-    let k = planned in
-    record {
-      said = (λ i. record { answer = completionOf (q .answer); header = h i; next = Links.viewOfParts (Links.whole (s .table) (q .link) (e i)) }) ∙ k .done;
-      same = λ m z. next-same s (q .link) l (q .change) e w (k .same m z);
-      tidy = λ z. next-tidy s (q .link) l (q .change) e (k .tidy z);
-    }
-  where
-    planned : CompletionDone q (s .table) (s .link) (s .pending) c
-    planned = completion-planned s c y q w n f g
+  abbrev c : Completion
+  c = givenFor given ticket payload header
+
+  pub completion-planned : CompletionDone q (s .table) (s .link) (s .pending) rs c
+  completion-planned =
+      subst (λ (r : CompletionPlan). CompletionDone r (s .table) (s .link) (s .pending) rs c)
+      (sym (g ∙ ap (λ (z : Look). completionPlan (s .link) (s .pending .count) z given (length payload) (length header)) f))
+      (completion-composed (s .table) (s .link) (s .pending) given ticket payload header w a n)
+
+  pub completes-by : (exit : List ℕ) (l : Pending) → l ≡ changed (s .pending) (q .change)
+      → exit ≡ cond (q .good) (over (submitReply (q .ret) (q .iso) (take (isoCount (q .ret .packets)) rs)) header) header
+      → Completes s c exit (record { session = record { table = s .table; link = q .link; pending = l }; answer = q .answer })
+  completes-by exit l e h =
+      let k = completion-planned in
+      record {
+        said =
+            (λ i. record { answer = completionOf (q .answer); header = h i; next = Links.viewOfParts (Links.whole (s .table) (q .link) (e i)) }) ∙ k .done;
+        same = λ m z. next-same s (q .link) l (q .change) e w (k .same m z);
+        tidy = λ z. next-tidy s (q .link) l (q .change) e (k .tidy z);
+      }
 
 pub closes-by : (s : Session) (q : ClosePlan) (l : Pending) (ts : Tickets)
     → Whole (s .pending)

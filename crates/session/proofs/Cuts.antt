@@ -7,6 +7,7 @@ use mathlib.Core.List.{List, [], _∷_, _++_, map, map-append, append-assoc, fla
 use mathlib.Core.Option.{none, some}
 use lib.ListN.{length, take, drop, length-append, length-drop, take-append-drop}
 use lib.Seq.{length-sets}
+use Rattle.packets.specs.declared.packet.Packet.{Packet}
 use Rattle.pending.specs.declared.list.Tickets.{Tickets}
 use Rattle.model.specs.Machine
 use Rattle.model.specs.Machine.{Note, Ran, before}
@@ -17,7 +18,7 @@ use Rattle.model.specs.Cut
 use Rattle.model.specs.Cut.{Enough}
 use Rattle.model.proofs.Cut.{answering, quietly, answersRun, none-run, answer-run, shut-run, same-answers}
 use Rattle.model.proofs.Untouched.{untouched}
-use Rattle.events.specs.Answers.{eventOf, setupBeside, ticketsOf, droppedBy}
+use Rattle.events.specs.Answers.{eventOf, urbBeside, ticketsOf, droppedBy}
 use Rattle.events.specs.Plans.{Result}
 use Rattle.events.specs.declared.answer.Event.{Event as Case}
 use Rattle.events.specs.declared.answer.Event.the-variants.{Hungry, List as Listed, Import, Submit, Answer as Answered, Unlink, Break, Refused}
@@ -42,16 +43,16 @@ caseOf (done (Event.unlink q st none)) = Unlink q st Nothing
 caseOf (done (Event.unlink q st (some t))) = Unlink q st (Ticket t)
 caseOf (done (Event.break f ts)) = Break f
 
-case-of : (e : Case) (setup : List ℕ) (ts : Tickets) → e ≡ caseOf (eventOf e setup ts)
-case-of Hungry setup ts = refl
-case-of Listed setup ts = refl
-case-of (Import st) setup ts = refl
-case-of (Submit t a u) setup ts = refl
-case-of (Answered q st) setup ts = refl
-case-of (Unlink q st (Ticket t)) setup ts = refl
-case-of (Unlink q st Nothing) setup ts = refl
-case-of (Break f) setup ts = refl
-case-of (Refused n) setup ts = refl
+case-of : (e : Case) (setup : List ℕ) (iso : List Packet) (ts : Tickets) → e ≡ caseOf (eventOf e setup iso ts)
+case-of Hungry setup iso ts = refl
+case-of Listed setup iso ts = refl
+case-of (Import st) setup iso ts = refl
+case-of (Submit t a u) setup iso ts = refl
+case-of (Answered q st) setup iso ts = refl
+case-of (Unlink q st (Ticket t)) setup iso ts = refl
+case-of (Unlink q st Nothing) setup iso ts = refl
+case-of (Break f) setup iso ts = refl
+case-of (Refused n) setup iso ts = refl
 
 abbrev notedAs : Note Cut.Answer ℕ Buffers → Noted
 notedAs a =
@@ -59,7 +60,8 @@ notedAs a =
     record {
       event = caseOf o;
       length = a .event .length;
-      setup = setupBeside o;
+      setup = urbBeside o .setup;
+      iso = urbBeside o .iso;
       dropped = ticketsOf (droppedBy o);
       buffers = a .buffers;
       time = a .time;
@@ -100,7 +102,16 @@ firstOf f q =
 
 abbrev firstResult : ℕ → Case → Result → Out → Out
 firstResult time e x q =
-    let n : Noted = record { event = e; length = x .length; setup = x .setup; dropped = x .dropped; buffers = x .buffers; time = time } in
+    let n : Noted =
+    record {
+      event = e;
+      length = x .length;
+      setup = x .setup;
+      iso = x .iso;
+      dropped = x .dropped;
+      buffers = x .buffers;
+      time = time;
+    } in
     record {
       notes = cond (saysNothing (x .event)) (q .notes) (n ∷ q .notes);
       consumed = x .consumed + q .consumed;
@@ -127,7 +138,7 @@ module _ (s : Session) (b : Buffers) (p : List ℕ) (f : FeedCall) (h : Feeds s 
   unfolding fedOf
   first-is q =
       let a = f .fed .answer in
-      ap (λ (e : Case). firstResult (f .time) e (fedAs (f .fed) (f .exit .work) (f .exit .reply)) q) (case-of (a .event) (a .setup) (f .fed .dropped))
+      ap (λ (e : Case). firstResult (f .time) e (fedAs (f .fed) (f .exit .work) (f .exit .reply)) q) (case-of (a .event) (a .setup) (a .iso) (f .fed .dropped))
       ∙ ap (λ (x : Result). firstResult (f .time) (caseOf (x .event)) x q) (h .said)
 
   consumed-is : f .fed .answer .consumed ≡ r .consumed

@@ -6,6 +6,7 @@ use mathlib.Core.List.{List, [], _∷_, map}
 use lib.Dec.{eqb}
 use Rattle.exports.specs.declared.device.Table.{Table}
 use Rattle.pending.specs.Pending.{tickets}
+use Rattle.packets.specs.declared.packet.Packet.{Packet}
 use Rattle.pending.specs.declared.list.Tickets.{Tickets}
 use Rattle.limits.specs.Limits
 use Rattle.model.specs.State.{Sess}
@@ -152,15 +153,15 @@ same-struct t u o p acts others a r b q e =
 
 -- ## Refusals
 
-feed-case : (e : Case) (setup : List ℕ) (ts : Tickets) (n : ℕ) → eventOf e setup ts ≡ refused n → e ≡ Refused n
-feed-case Hungry setup ts n h = cc
-feed-case Listed setup ts n h = cc
-feed-case (Import st) setup ts n h = cc
-feed-case (Submit t a u) setup ts n h = cc
-feed-case (Answered q st) setup ts n h = cc
-feed-case (Unlink q st r) setup ts n h = cc
-feed-case (Break f) setup ts n h = cc
-feed-case (Refused m) setup ts n h = cc
+feed-case : (e : Case) (setup : List ℕ) (iso : List Packet) (ts : Tickets) (n : ℕ) → eventOf e setup iso ts ≡ refused n → e ≡ Refused n
+feed-case Hungry setup iso ts n h = cc
+feed-case Listed setup iso ts n h = cc
+feed-case (Import st) setup iso ts n h = cc
+feed-case (Submit t a u) setup iso ts n h = cc
+feed-case (Answered q st) setup iso ts n h = cc
+feed-case (Unlink q st r) setup iso ts n h = cc
+feed-case (Break f) setup iso ts n h = cc
+feed-case (Refused m) setup iso ts n h = cc
 
 complete-case : (e : Completion) (n : ℕ) → completionOf e ≡ refused n → e ≡ CompletionRefused n
 complete-case (Return m st) n h = cc
@@ -174,7 +175,7 @@ pub code-refuses : CodeRefuses
 unfolding fedOf
 code-refuses s (feeds piece entry exit time r) n h e =
     let k = untouched (viewOf s) entry piece time .refuses n (ap (λ (x : Result). x .event) (sym (h .said)) ∙ e) in (
-      h .same n (feed-case (r .answer .event) (r .answer .setup) (r .dropped) n e),
+      h .same n (feed-case (r .answer .event) (r .answer .setup) (r .answer .iso) (r .dropped) n e),
       ap (λ (x : Result). x .buffers) (h .said) ∙ ap (λ (x : Feeding). x .buffers) k,
       ap (λ (x : Result). x .consumed) (h .said) ∙ ap (λ (x : Feeding). x .consumed) k,
     )

@@ -4,6 +4,7 @@ use mathlib.Core.Path.{_≡_}
 use mathlib.Core.Bool.{true, false, cond}
 use mathlib.Core.List.{List, [], _∷_, map, flatten}
 use lib.ListN.{drop}
+use Rattle.packets.specs.declared.packet.Packet.{Packet}
 use Rattle.pending.specs.declared.list.Tickets.{Tickets}
 use Rattle.model.specs.State.{closed}
 use Rattle.model.specs.Answers.{Outcome, Event, saysNothing}
@@ -43,17 +44,26 @@ pub record Noted : Type 0 where
   pub event : Case
   pub length : ℕ
   pub setup : List ℕ
+  pub iso : List Packet
   pub dropped : Tickets
   pub buffers : Buffers
   pub time : ℕ
 
 abbrev pub eventIn : FeedCall → Outcome Event
-eventIn f = let a = f .fed .answer in eventOf (a .event) (a .setup) (f .fed .dropped)
+eventIn f = let a = f .fed .answer in eventOf (a .event) (a .setup) (a .iso) (f .fed .dropped)
 
 abbrev pub notedBy : FeedCall → Noted
 notedBy f =
     let a = f .fed .answer in
-    record { event = a .event; length = a .length; setup = a .setup; dropped = f .fed .dropped; buffers = f .exit; time = f .time }
+    record {
+      event = a .event;
+      length = a .length;
+      setup = a .setup;
+      iso = a .iso;
+      dropped = f .fed .dropped;
+      buffers = f .exit;
+      time = f .time;
+    }
 
 -- What the feeds answered, consumed and left.
 pub record Drained : Type 0 where

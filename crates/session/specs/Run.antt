@@ -37,7 +37,7 @@ callOf (completes c header r) = complete c
 callOf (closes r) = close
 
 abbrev pub entryBy : Act → Entry
-entryBy (feeds piece entry exit time r) = let a = r .answer in fed piece (eventOf (a .event) (a .setup) (r .dropped)) (a .consumed)
+entryBy (feeds piece entry exit time r) = let a = r .answer in fed piece (eventOf (a .event) (a .setup) (a .iso) (r .dropped)) (a .consumed)
 entryBy (completes c header r) = completed (c .ticket) (completionOf (r .answer))
 entryBy (closes r) = closing (closingOf (r .answer) (r .dropped))
 
@@ -89,7 +89,7 @@ besideClose b (done ts) = pendingTickets b
 besideClose b (refused n) = ticketsOf []
 
 abbrev pub Beside : Book → Act → Type 0
-Beside b (feeds piece entry exit time r) = let a = r .answer in r .dropped ≡ besideFeed b (eventOf (a .event) (a .setup) (r .dropped))
+Beside b (feeds piece entry exit time r) = let a = r .answer in r .dropped ≡ besideFeed b (eventOf (a .event) (a .setup) (a .iso) (r .dropped))
 Beside b (completes c header r) = Unit {0}
 Beside b (closes r) = r .dropped ≡ besideClose b (closingOf (r .answer) (r .dropped))
 
@@ -130,7 +130,7 @@ Unchanged s (closes r) = r .session ≡ s
 
 -- An act was refused with a number.
 abbrev pub RefusedWith : Act → ℕ → Type 0
-RefusedWith (feeds piece entry exit time r) n = let a = r .answer in eventOf (a .event) (a .setup) (r .dropped) ≡ refused n
+RefusedWith (feeds piece entry exit time r) n = let a = r .answer in eventOf (a .event) (a .setup) (a .iso) (r .dropped) ≡ refused n
 RefusedWith (completes c header r) n = completionOf (r .answer) ≡ refused n
 RefusedWith (closes r) n = closingOf (r .answer) (r .dropped) ≡ refused n
 

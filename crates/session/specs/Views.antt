@@ -9,6 +9,8 @@ use Rattle.model.specs.Cut.{lent}
 use Rattle.links.specs.Links
 use Rattle.events.specs.Answers.{eventOf, completionOf, closingOf}
 use Rattle.events.specs.Plans.{Result}
+use Rattle.events.specs.declared.answer.Answer.{Answer}
+use Rattle.events.specs.declared.plan.Plan.{Plan}
 use Rattle.session.specs.declared.state.Session.{Session}
 use Rattle.session.specs.declared.answer.Fed.{Fed}
 use Rattle.session.specs.declared.answer.Completed.{Completed}
@@ -29,17 +31,23 @@ Tidy s = Links.TidyParts (partsOf s)
 abbrev pub freshSession : Table → ℕ → Session
 freshSession t phase = record { table = t; link = Links.freshLink phase; pending = emptyPending }
 
--- What the device side hands over with a ticket.
-abbrev pub handed : (ticket status actual : ℕ) → (payload header : List ℕ) → Acts.Completion
-handed ticket status actual payload header = record { ticket = ticket; status = status; actual = actual; payload = payload; header = header }
+-- What the device side hands over with a ticket, of either kind.
+abbrev pub handed : Acts.Kind → (ticket status actual : ℕ) → (payload header : List ℕ) → Acts.Completion
+handed kind ticket status actual payload header =
+    record { ticket = ticket; status = status; actual = actual; kind = kind; payload = payload; header = header }
+
+-- The answer of a feed's plan, with a reply of so many bytes.
+abbrev pub answerOf : Plan → (length : ℕ) → Answer
+answerOf r n = record { event = r .event; consumed = r .consumed; length = n; setup = r .change .urb .setup; iso = r .change .urb .iso }
 
 -- All that a feed answers and leaves, by the code, with both buffers at exit.
 abbrev pub fedAs : Fed → List ℕ → List ℕ → Result
 fedAs r work reply =
     let a = r .answer in
     record {
-      event = eventOf (a .event) (a .setup) (r .dropped);
+      event = eventOf (a .event) (a .setup) (a .iso) (r .dropped);
       setup = a .setup;
+      iso = a .iso;
       dropped = r .dropped;
       consumed = a .consumed;
       length = a .length;

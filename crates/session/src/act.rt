@@ -6,9 +6,9 @@ use crate::answer::Completed;
 use crate::answer::Fed;
 use crate::answer::Inquired;
 use crate::answer::Opened;
-use crate::carry::copy_data;
+use crate::carry::copy_body;
 use crate::carry::write_header;
-use crate::carry::write_reply;
+use crate::carry::write_planned;
 use crate::carry::write_request_reply;
 use crate::state::Session;
 use ages::stale_tickets;
@@ -30,6 +30,8 @@ use links::link::fresh_link;
 use pending::counts::Numbers;
 use pending::list::Pending;
 use pending::look::Key;
+use results::Results;
+use results::no_results;
 use settling::close::plan_close;
 use settling::completion::Given;
 use settling::completion::plan_completion;
@@ -37,9 +39,12 @@ use tables::is_good;
 ghost use Prim.Native.Nat.{ℕ};
 ghost use mathlib.Core.Path.{_≡_};
 ghost use Rattle.limits.specs.Limits;
+ghost use Rattle.results.specs.Results.{resultsOf};
 ghost use Rattle.model.specs.State.{numbersOf, servedDevid};
+ghost use Rattle.model.specs.Acts.{plain, isochronous};
 ghost use Rattle.model.specs.Cut.{lent};
-ghost use Rattle.session.specs.Views.{viewOf, freshSession, handed};
+ghost use Rattle.settling.specs.Settling.{givenFor};
+ghost use Rattle.session.specs.Views.{viewOf, freshSession, handed, answerOf};
 ghost use Rattle.session.specs.Acts.{Opens, Feeds, Completes, Closes, Inquires};
 
 // A session that nothing was said to yet.
@@ -55,17 +60,21 @@ fn fresh_session(table: Table, phase: u8) -> Session
     }
 }
 
-// The answer of a feed's plan, with a reply of so many bytes.
+// The answer of a feed's plan, with a reply of so many bytes. What stands beside an accepted submit's event is its record's.
 fn answer_of(plan: Plan, length: usize) -> Answer
-    ensures { λ r. ⌜ r ≡ record { event = plan .event; consumed = plan .consumed; length = length; setup = plan .setup } ⌝ }
+    ensures { λ r. ⌜ r ≡ answerOf plan length ⌝ }
 {
     let event = plan.event;
-    let setup = plan.setup;
+    let change = plan.change;
+    let urb = change.urb;
+    let setup = urb.setup;
+    let iso = urb.iso;
     Answer {
         event: event,
         consumed: plan.consumed,
         length: length,
         setup: setup,
+        iso: iso,
     }
 }
 
@@ -103,7 +112,7 @@ impl Session {
         let change = plan.change;
         let pending = list.changed(change);
         let dropped = list.tickets(change.dropped);
-        copy_data(piece, plan.from, plan.to, plan.body, work);
+        copy_body(piece, plan.from, plan.to, plan.body, work);
         let n = write_request_reply(self.table, said, reply);
         Fed {
             session: Session {
@@ -117,7 +126,7 @@ impl Session {
     }
 
     // A piece of the stream, up to the end of the first whole message or all of it, and the time, in milliseconds that wrap. A submit's
-    // data goes to the work buffer, a reply to the front of the reply buffer.
+    // data and descriptors go to the work buffer, a reply to the front of the reply buffer.
     pub fn feed(self, piece: &[u8], work: &mut [u8], reply: &mut [u8], time: u32) -> Fed
         ensures { λ r.
             ⌜ Feeds self (now (piece .entry)) (lent (now (work .entry)) (now (reply .entry))) (lent (now (work .exit)) (now (reply .exit))) time r ⌝ }
@@ -135,18 +144,16 @@ impl Session {
             list.count,
             asked,
             look,
-            piece.len(),
+            piece,
             work.len(),
             reply.len(),
             time,
         );
         let next = plan.link;
         let change = plan.change;
-        let said = plan.reply;
         let pending = list.changed(change);
         let dropped = list.tickets(change.dropped);
-        copy_data(piece, plan.from, plan.to, plan.body, work);
-        let n = write_reply(said, reply);
+        let n = write_planned(plan, piece, work, reply);
         Fed {
             session: Session {
                 link: next,
@@ -155,6 +162,33 @@ impl Session {
             },
             answer: answer_of(plan, n),
             dropped: dropped,
+        }
+    }
+
+    // A completion of either kind.
+    fn settle(self, ticket: u64, given: Given, payload: &[u8], header: &mut [u8]) -> Completed
+        ensures { λ r. ⌜ Completes self (givenFor given ticket (now (payload .entry)) (now (header .entry))) (now (header .exit)) r ⌝ }
+    {
+        let list = self.pending;
+        let link = self.link;
+        let look = list.look(Key::Ticket(ticket));
+        let plan = plan_completion(link, list.count, look, given, payload.len(), header.len());
+        let next = plan.link;
+        let change = plan.change;
+        let answer = plan.answer;
+        let ret = plan.ret;
+        let iso = plan.iso;
+        let results = given.results;
+        let told = results.list;
+        let pending = list.changed(change);
+        write_header(plan.good, ret, iso, told, header);
+        Completed {
+            session: Session {
+                link: next,
+                pending: pending,
+                ..self
+            },
+            answer: answer,
         }
     }
 
@@ -168,30 +202,39 @@ impl Session {
         payload: &[u8],
         header: &mut [u8],
     ) -> Completed
-        ensures { λ r. ⌜ Completes self (handed ticket status actual (now (payload .entry)) (now (header .entry))) (now (header .exit)) r ⌝ }
+        ensures { λ r. ⌜ Completes self (handed plain ticket status actual (now (payload .entry)) (now (header .entry))) (now (header .exit)) r ⌝ }
     {
-        let list = self.pending;
-        let link = self.link;
-        let look = list.look(Key::Ticket(ticket));
         let given = Given {
             status: status,
             actual: actual,
+            plain: true,
+            results: no_results(),
         };
-        let plan = plan_completion(link, list.count, look, given, payload.len(), header.len());
-        let next = plan.link;
-        let change = plan.change;
-        let answer = plan.answer;
-        let ret = plan.ret;
-        let pending = list.changed(change);
-        write_header(plan.good, ret, header);
-        Completed {
-            session: Session {
-                link: next,
-                pending: pending,
-                ..self
-            },
-            answer: answer,
-        }
+        self.settle(ticket, given, payload, header)
+    }
+
+    // The same for an isochronous URB, with a result for each packet; total is the sum of their actual lengths. The descriptors stand
+    // behind the header's 48 bytes.
+    pub fn complete_iso(
+        self,
+        ticket: u64,
+        status: u32,
+        total: u32,
+        results: Results,
+        payload: &[u8],
+        header: &mut [u8],
+    ) -> Completed
+        ensures { λ r.
+            ⌜ Completes self (handed (isochronous (resultsOf results)) ticket status total (now (payload .entry)) (now (header .entry)))
+            (now (header .exit)) r ⌝ }
+    {
+        let given = Given {
+            status: status,
+            actual: total,
+            plain: false,
+            results: results,
+        };
+        self.settle(ticket, given, payload, header)
     }
 
     // The end: what is pending is dropped.

@@ -2,12 +2,19 @@
 use Prim.Native.Nat.{ℕ, _+_, _≤_, _<_}
 use native.Mathlib.Omega.{arith}
 use mathlib.Core.Path.{_≡_, refl, sym, ap, _∙_}
-use mathlib.Core.Bool.{Bool, true, false, cond, true≢false}
+use mathlib.Core.Bool.{Bool, true, false, cond, _&&_, true≢false}
 use mathlib.Core.List.{List}
 use mathlib.Core.Option.{Option, none, some}
-use lib.Dec.{eqb}
-use lib.ListN.{length}
+use lib.Dec.{eqb, ltb}
+use lib.ListN.{length, take}
+use borrow.Author.Tests.{eqb-true}
 use Rattle.ground.specs.Writing.{over}
+use Rattle.messages.specs.Messages.{isoCount}
+use Rattle.packets.specs.declared.packet.Packet.{Packet}
+use Rattle.results.specs.Results.{resultsOf, resultsFit, errors}
+use Rattle.results.specs.declared.Results.{Results}
+use Rattle.results.proofs.Laws.{results-length, results-inside}
+use Rattle.replies.specs.Replies.{submitReply}
 use Rattle.exports.specs.declared.device.Table.{Table}
 use Rattle.transmit.specs.Part.{wireLength}
 use Rattle.pending.specs.Changes.{changed, removes, clears}
@@ -26,7 +33,8 @@ use Rattle.model.specs.State
 use Rattle.model.specs.State.{Sess, returned}
 use Rattle.model.specs.Acts
 use Rattle.model.specs.Answers.{refused, done}
-use Rattle.model.specs.Acts.{theTransfer, refusedCompletion, completeOf, closeOf}
+use Rattle.model.specs.Acts.{Kind, plain, isochronous, resultsIn, kindFits, theTransfer, thePackets, retFor, refusedCompletion, completeOf, closeOf}
+use Rattle.model.proofs.Packets.{iso-most}
 use Rattle.links.specs.Links.{Parts, phaseOf, messageOf, bareOf, viewOfParts, whole, linkWithCounts, plus, endedLink, Live, TidyParts}
 use Rattle.links.specs.declared.link.Link.{Link}
 use Rattle.links.proofs.Fits.{counts-known, even-counts, plus-fits}
@@ -34,11 +42,20 @@ use Rattle.links.proofs.Views.{view-fit, live, live-view}
 use Rattle.links.proofs.Tidy.{none-padded}
 use Rattle.events.specs.Answers.{ticketsOf, listedBy}
 use Rattle.events.proofs.Saying.{remove-clean, clear-clean, drops-all, all-dropped, all-listed}
-use Rattle.settling.specs.Settling.{judgedBy, returnedLink, refusalPlan, returnPlan, completionPlan, CompletionDone, CompletionComposed, refusedClose}
+use Rattle.settling.specs.Settling.{givenFor, judgedBy, returnedLink, refusalPlan, returnPlan, completionPlan, CompletionDone}
+use Rattle.settling.specs.Settling.{CompletionComposed, refusedClose}
 use Rattle.settling.specs.Settling.{droppingClose, closePlan, CloseDone, CloseComposed}
 use Rattle.settling.specs.declared.completion.Given.{Given}
 
 -- ## A completion
+
+and-left : (s t : Bool) → (s && t) ≡ true → s ≡ true
+and-left true t h = refl
+and-left false t h = h
+
+and-right : (s t : Bool) → (s && t) ≡ true → t ≡ true
+and-right true t h = h
+and-right false t h = absurd (true≢false (sym h))
 
 -- what is seen at a place is the URB there
 look-found : (us : List Urb) (p : Place) → lookAt us p .found ≡ found (urbAt p us)
@@ -49,18 +66,41 @@ look-transfer : (us : List Urb) (p : Place) → lookAt us p .transfer ≡ theTra
 look-transfer us (At i) = refl
 look-transfer us Nothing = refl
 
+look-packets : (us : List Urb) (p : Place) → lookAt us p .found ≡ true → lookAt us p .iso ≡ thePackets (urbAt p us)
+look-packets us (At i) f = refl
+look-packets us Nothing f = absurd (true≢false (sym f))
+
 look-place : (us : List Urb) (p : Place) → lookAt us p .found ≡ true → p ≡ At (lookAt us p .place)
 look-place us (At i) f = refl
 look-place us Nothing f = absurd (true≢false (sym f))
+
+-- whether a completion fits, too
+look-fits : (k : Kind) (total : ℕ) (us : List Urb) (p : Place)
+    → kindFits k (isoCount (lookAt us p .transfer .packets)) (lookAt us p .iso) total
+    ≡ kindFits k (isoCount (theTransfer (urbAt p us) .packets)) (thePackets (urbAt p us)) total
+look-fits k total us (At i) = refl
+look-fits plain total us Nothing = refl
+look-fits (isochronous rs) total us Nothing = refl
+
+-- of a completion that fits, as many results as the URB has packets are all there are
+all-sent : (p : Bool) (r : Results) (n : ℕ) (ks : List Packet) (total : ℕ) → length (r .list) ≡ Limits.MAX-PACKETS → n ≤ Limits.MAX-PACKETS
+    → let k = cond p plain (isochronous (resultsOf r)) in kindFits k n ks total ≡ true → take n (r .list) ≡ resultsIn k
+unfolding resultsFit
+all-sent true r n ks total l m f = rw (eqb-true n 0 f)
+all-sent false r n ks total l m f =
+    let fit = and-right (ltb 0 n) _ f in
+    let e : r .count ≡ n = sym (results-length r l) ∙ eqb-true (length (resultsOf r)) n (and-left _ _ fit) in
+    ap (λ i. take i (r .list)) (sym e) ∙ sym (results-inside r (omega (arith, e)))
 
 -- as the definitions have it
 abbrev acceptedCompletion : Sess → Acts.Completion → Acts.Complete
 acceptedCompletion s c =
     let u = theTransfer (Acts.named s c) in
+    let rs = resultsIn (c .kind) in
     let sent = Verdicts.statusSent u (c .status) (c .actual) in
     record {
-      answer = done (record { wire = wireLength (u .direction) (c .actual); status = sent });
-      header = over (Acts.replyFor u sent (c .actual)) (c .header);
+      answer = done (record { wire = wireLength (u .direction) (c .actual) (isoCount (u .packets)); status = sent });
+      header = over (submitReply (retFor u sent (c .actual) (errors rs)) (thePackets (Acts.named s c)) rs) (c .header);
       next = Acts.settles (Acts.namedPlace s c) returned s;
     }
 
@@ -73,18 +113,18 @@ module _ (s : Sess) (c : Acts.Completion) where
   unfolding completeOf decide
   complete-returns f = rw f
 
-module _ (t : Table) (k : Link) (l : Pending) (c : Acts.Completion) (w : Whole l) where
+module _ (t : Table) (k : Link) (l : Pending) (given : Given) (ticket : ℕ) (payload header : List ℕ) (w : Whole l) where
   abbrev s : Parts
   s = whole t k l
+
+  abbrev c : Acts.Completion
+  c = givenFor given ticket payload header
 
   abbrev where-is : Place
   where-is = ticketPlace (c .ticket) (listOf l)
 
   abbrev look : Look
   look = lookAt (listOf l) where-is
-
-  abbrev given : Given
-  given = record { status = c .status; actual = c .actual }
 
   abbrev tests : List (Test ℕ)
   tests = Verdicts.completionTests (judgedBy (phaseOf k (l .count)) look given (length (c .payload)) (length (c .header)))
@@ -104,9 +144,10 @@ module _ (t : Table) (k : Link) (l : Pending) (c : Acts.Completion) (w : Whole l
         payload = length (c .payload);
         length = u i .length;
         direction = u i .direction;
+        fits = look-fits (c .kind) (c .actual) (listOf l) where-is i;
       })
 
-  refused-done : (n : ℕ) → first tests ≡ some n → CompletionDone (refusalPlan k (l .count) look given n) t k l c
+  refused-done : (n : ℕ) → first tests ≡ some n → CompletionDone (refusalPlan k (l .count) look given n) t k l (given .results .list) c
   refused-done n f =
       record {
         fits = λ e. absurd (true≢false (sym e));
@@ -148,11 +189,15 @@ module _ (t : Table) (k : Link) (l : Pending) (c : Acts.Completion) (w : Whole l
     returned-tidy h =
         record { list = remove-clean l (look .place) (h .list); head = h .head; phase = sym (ap (λ (z : Sess). z .link .phase) fits) }
 
-  returned-done : k .counts .accepted ≤ Limits.LAST-TICKET → first tests ≡ none → CompletionDone (returnPlan k (l .count) look given) t k l c
-  returned-done b f =
+  returned-done : length (given .results .list) ≡ Limits.MAX-PACKETS → k .counts .accepted ≤ Limits.LAST-TICKET → first tests ≡ none
+      → CompletionDone (returnPlan k (l .count) look given) t k l (given .results .list) c
+  returned-done a b f =
       let good = completion-clear (judgedBy (phaseOf k (l .count)) look given (length (c .payload)) (length (c .header))) f in
       let v = live s (good .0) in
       let u = look-transfer (listOf l) where-is in
+      let ks = look-packets (listOf l) where-is (good .2) in
+      let n = isoCount (look .transfer .packets) in
+      let rs = all-sent (given .plain) (given .results) n (look .iso) (given .actual) a (iso-most (look .transfer .packets)) (good .3) in
       let e = settled b v (good .2) in
       record {
         fits = λ _. good .1;
@@ -160,8 +205,8 @@ module _ (t : Table) (k : Link) (l : Pending) (c : Acts.Completion) (w : Whole l
             (λ i.
             let sent = Verdicts.statusSent (u i) (c .status) (c .actual) in
             record {
-              answer = done (record { wire = wireLength (u i .direction) (c .actual); status = sent });
-              header = over (Acts.replyFor (u i) sent (c .actual)) (c .header);
+              answer = done (record { wire = wireLength (u i .direction) (c .actual) (isoCount (u i .packets)); status = sent });
+              header = over (submitReply (retFor (u i) sent (c .actual) (errors (resultsIn (c .kind)))) (ks i) (rs i)) (c .header);
               next = e i;
             })
             ∙ sym (complete-returns (viewOfParts s) c (ap first (sym judged) ∙ f));
@@ -171,12 +216,13 @@ module _ (t : Table) (k : Link) (l : Pending) (c : Acts.Completion) (w : Whole l
 
 pub completion-composed : CompletionComposed
 unfolding completionPlan decide
-completion-composed t k l c w b = at (first (tests t k l c w)) refl
+completion-composed t k l given ticket payload header w a b = at (first (tests t k l given ticket payload header w)) refl
   where
-    at : (o : Option ℕ) → first (tests t k l c w) ≡ o → let seen = look t k l c w in let told = given t k l c w in
-        CompletionDone (decide o (refusalPlan k (l .count) seen told) (returnPlan k (l .count) seen told)) t k l c
-    at none f = returned-done t k l c w b f
-    at (some n) f = refused-done t k l c w n f
+    at : (o : Option ℕ) → first (tests t k l given ticket payload header w) ≡ o → let seen = look t k l given ticket payload header w in
+        CompletionDone (decide o (refusalPlan k (l .count) seen given) (returnPlan k (l .count) seen given)) t k l (given .results .list)
+        (givenFor given ticket payload header)
+    at none f = returned-done t k l given ticket payload header w a b f
+    at (some n) f = refused-done t k l given ticket payload header w n f
 
 -- ## A close
 

@@ -5,20 +5,19 @@ use mathlib.Core.List.{List, [], _∷_, _++_}
 use mathlib.Core.Logic.{_⊎_, inl, inr, ⊎-elim}
 use native.Mathlib.Omega.{arith}
 use borrow.Author.Tests.{le-ltb}
+use lib.Dec.{eqb}
 use lib.ListN.{length, drop, length-append, length-drop}
 use lib.Seq.{take-append-le, drop-append-le}
+use Rattle.ground.proofs.Cases.{by-cond}
 use Rattle.wire.specs.Fields.{unpack, widths, size}
 use Rattle.wire.proofs.Heads.{field-stays}
 use Rattle.tape.specs.Layout
-use Rattle.tape.specs.Tape.{fieldsOf, countOf, lengthOf, headOf, readIn, readOf, wantedIn, wantedOf, ReadsAlike}
+use Rattle.tape.specs.Tape.{fieldsOf, countOf, mostOf, lengthOf, headOf, readIn, readOf, wantedIn, wantedOf, ReadsAlike}
 use Rattle.tape.specs.declared.reader.Record.{Record}
-use Rattle.tape.specs.declared.reader.Record.the-variants.{Stream, Completion, Close}
+use Rattle.tape.specs.declared.reader.Record.the-variants.{Stream, Completion, Iso, Close}
 use Rattle.tape.specs.declared.reader.Read.{Read}
 use Rattle.tape.specs.declared.reader.Head.{Head}
-use Rattle.tape.proofs.Reading.{markIn, Told, told, found, unfound, value, read-head}
-
-pub one-of-3 : {A B C D : Type 0} → (A → D) → (B → D) → (C → D) → A ⊎ B ⊎ C → D
-one-of-3 f g h = ⊎-elim f (⊎-elim g h)
+use Rattle.tape.proofs.Reading.{markIn, headLen, Told, told, found, one-of-3, unfound, value, read-head}
 
 -- ## More bytes behind
 
@@ -46,9 +45,10 @@ module _ (bytes more : List ℕ) where
   pub bad-stays : Told bytes Head.Bad → headOf (bytes ++ more) ≡ Head.Bad
   bad-stays t =
       unfound (bytes ++ more)
-      (⊎-elim
+      (one-of-3
       (λ b. inl (omega (arith, longer), mark-more (omega arith) ∙ b .1, rw (field-stays 2 Layout.COUNT-AT bytes more (b .0)) (b .2)))
-      (λ b. let m = mark-more (b .0) in inr (omega (arith, longer), rw m (b .1), rw m (b .2), rw m (b .3)))
+      (λ b. inr (inl (omega (arith, longer), mark-more (omega arith) ∙ b .1, rw (field-stays 1 Layout.RESULT-COUNT-AT bytes more (b .0)) (b .2))))
+      (λ b. let m = mark-more (b .0) in inr (inr (omega (arith, longer), rw m (b .1), rw m (b .2), rw m (b .3), rw m (b .4))))
       t)
 
 -- ## How long a record is
@@ -56,22 +56,31 @@ module _ (bytes more : List ℕ) where
 marked : (bytes : List ℕ) (r : Record) → Told bytes (Head.Record r) → markIn bytes ≡ value 0 (fieldsOf r)
 marked bytes (Stream n) t = ap (value 0) (t .0)
 marked bytes (Completion k s a) t = ap (value 0) (t .0)
+marked bytes (Iso k s n) t = ap (value 0) (t .0)
 marked bytes Close t = ap (value 0) (t .0)
 
 -- at least, by its mark
-least : (r : Record)
-    → (Layout.MARK-LEN ≤ lengthOf r)
-    × (value 0 (fieldsOf r) ≡ Layout.STREAM-MARK → Layout.STREAM-AT ≤ lengthOf r)
-    × (value 0 (fieldsOf r) ≡ Layout.COMPLETION-MARK → Layout.COMPLETION-LEN ≤ lengthOf r)
-least (Stream n) = omega arith
-least (Completion k s a) = omega arith
-least Close = omega arith
+least : (r : Record) → (Layout.MARK-LEN ≤ lengthOf r) × (headLen (value 0 (fieldsOf r)) ≤ lengthOf r)
+least (Stream n) = (omega arith, omega arith)
+least (Completion k s a) = (omega arith, omega arith)
+least (Iso k s n) = (omega arith, omega arith)
+least Close = (omega arith, omega arith)
 
 -- at most, by its count
-most : (r : Record) → countOf r ≤ Layout.MAX-COUNT → lengthOf r ≤ Layout.MAX-RECORD-LEN
+most : (r : Record) → countOf r ≤ mostOf r → lengthOf r ≤ Layout.MAX-RECORD-LEN
 most (Stream n) h = omega arith
 most (Completion k s a) h = omega arith
+most (Iso k s n) h = omega arith
 most Close h = omega arith
+
+-- and so its head
+head-room : (mark : ℕ) → headLen mark ≤ Layout.MAX-RECORD-LEN
+head-room mark =
+    let Fits : ℕ → Type 0 = λ n. n ≤ Layout.MAX-RECORD-LEN in
+    by-cond Fits (eqb mark Layout.STREAM-MARK) (λ _. omega arith)
+    λ _.
+    by-cond Fits (eqb mark Layout.COMPLETION-MARK) (λ _. omega arith)
+    λ _. by-cond Fits (eqb mark Layout.ISO-MARK) (λ _. omega arith) (λ _. omega arith)
 
 -- ## What is wanted
 
@@ -84,11 +93,7 @@ module _ (bytes more : List ℕ) where
   past (Head.Short n) t r e =
       let m = sym (marked (bytes ++ more) r (rw e at (told (bytes ++ more)))) in
       let l = least r in
-      one-of-3
-      (λ a. rw a (l .0))
-      (λ a. rw (a .2) (l .1 (m ∙ mark-more bytes more (a .0) ∙ a .1)))
-      (λ a. rw (a .2) (l .2 (m ∙ mark-more bytes more (a .0) ∙ a .1)))
-      (t .1)
+      ⊎-elim (λ a. rw a (l .0)) (λ a. rw (a .1, ← mark-more bytes more (a .0), ← m) (l .1)) (t .1)
   past Head.Bad t r e =
       let b = bad-stays bytes more t in
       absurd (let z : _≡_ {A = ℕ} 0 1 = cc in omega arith)
@@ -109,7 +114,7 @@ enough bytes w more = settled bytes more (headOf bytes) (told bytes) w
 
 room-for : (bytes : List ℕ) (h : Head) → Told bytes h → Layout.MAX-RECORD-LEN ≤ length bytes → wantedIn (length bytes) h ≤ length bytes
 room-for bytes (Head.Record r) t l = omega (arith, most r (t .1))
-room-for bytes (Head.Short n) t l = one-of-3 (λ a. omega arith) (λ a. omega arith) (λ a. omega arith) (t .1)
+room-for bytes (Head.Short n) t l = ⊎-elim (λ a. omega arith) (λ a. omega (arith, head-room (markIn bytes))) (t .1)
 room-for bytes Head.Bad t l = omega arith
 
 -- no more than a buffer for the longest record has room for

@@ -4,31 +4,41 @@ use crate::layout::CLOSE_MARK;
 use crate::layout::COMPLETION_LEN;
 use crate::layout::COMPLETION_MARK;
 use crate::layout::COUNT_AT;
+use crate::layout::ISO_MARK;
 use crate::layout::MARK_AT;
 use crate::layout::MARK_LEN;
 use crate::layout::MAX_COUNT;
 use crate::layout::MAX_RECORDS;
+use crate::layout::RESULT_COUNT_AT;
+use crate::layout::RESULT_LEN;
+use crate::layout::RESULTS_AT;
 use crate::layout::STATUS_AT;
 use crate::layout::STREAM_AT;
 use crate::layout::STREAM_MARK;
 use crate::layout::TICKET_AT;
+use limits::MAX_PACKETS;
 use wire::number::be2;
 use wire::number::be4;
 use wire::number::be8;
 ghost use mathlib.Core.Path.{_≡_};
-ghost use Prim.Native.Nat.{_+_, _≤_};
+ghost use Prim.Native.Nat.{_+_, _≤_, _<_};
 ghost use lib.ListN.{length};
 ghost use Rattle.wire.specs.Fields.{field};
-ghost use Rattle.tape.specs.Tape.{lengthOf, streamHead, completionHead, headOf, readOf, readBehind, wantedOf, streamOf};
+ghost use Rattle.tape.specs.Tape.{lengthOf, streamHead, completionHead, isoHead, headOf, readOf, readBehind, wantedOf, streamOf};
 
-// A record: how many stream bytes it has; a completion by the device (actual is actual_length); a close. `fieldsOf` in specs/
-// gives each case's mark and fields.
+// A record: how many stream bytes it has; a completion by the device (actual is actual_length); one of an isochronous URB, with as
+// many results; a close. `fieldsOf` in specs/ gives each case's mark and fields.
 pub enum Record {
     Stream(u16),
     Completion {
         ticket: u64,
         status: u32,
         actual: u32,
+    },
+    Iso {
+        ticket: u64,
+        status: u32,
+        count: u8,
     },
     Close,
 }
@@ -46,7 +56,14 @@ enum Head {
     Bad,
 }
 
-// The field at an offset, of 16, 32 and 64 bits.
+// The field at an offset, of 8, 16, 32 and 64 bits.
+fn field8(bytes: &[u8], at: usize) -> u8
+    requires { ⌜ at < length (now bytes) ⌝ }
+    ensures { λ r. ⌜ r ≡ field 1 at (now (bytes .entry)) ⌝ }
+{
+    bytes[at]
+}
+
 fn field16(bytes: &[u8], at: usize) -> u16
     requires { ⌜ at + 2 ≤ length (now bytes) ⌝ }
     ensures { λ r. ⌜ r ≡ field 2 at (now (bytes .entry)) ⌝ }
@@ -54,7 +71,7 @@ fn field16(bytes: &[u8], at: usize) -> u16
     be2(bytes[at], bytes[at + 1])
 }
 
-fn field32(bytes: &[u8], at: usize) -> u32
+pub(crate) fn field32(bytes: &[u8], at: usize) -> u32
     requires { ⌜ at + 4 ≤ length (now bytes) ⌝ }
     ensures { λ r. ⌜ r ≡ field 4 at (now (bytes .entry)) ⌝ }
 {
@@ -106,6 +123,25 @@ fn completion_head(bytes: &[u8]) -> Head
     Head::Record(completion)
 }
 
+// Behind `I>`.
+fn iso_head(bytes: &[u8]) -> Head
+    ensures { λ r. ⌜ r ≡ isoHead (now (bytes .entry)) ⌝ }
+{
+    if bytes.len() < RESULTS_AT {
+        return Head::Short(RESULTS_AT);
+    }
+    let count = field8(bytes, RESULT_COUNT_AT);
+    if MAX_PACKETS < count as usize {
+        return Head::Bad;
+    }
+    let iso = Record::Iso {
+        ticket: field64(bytes, TICKET_AT),
+        status: field32(bytes, STATUS_AT),
+        count: count,
+    };
+    Head::Record(iso)
+}
+
 fn read_head(bytes: &[u8]) -> Head
     ensures { λ r. ⌜ r ≡ headOf (now (bytes .entry)) ⌝ }
 {
@@ -118,6 +154,9 @@ fn read_head(bytes: &[u8]) -> Head
     }
     if mark == COMPLETION_MARK {
         return completion_head(bytes);
+    }
+    if mark == ISO_MARK {
+        return iso_head(bytes);
     }
     if mark == CLOSE_MARK {
         return Head::Record(Record::Close);
@@ -136,6 +175,11 @@ pub fn record_len(r: Record) -> usize
             status: _,
             actual: _,
         } => COMPLETION_LEN,
+        Record::Iso {
+            ticket: _,
+            status: _,
+            count,
+        } => RESULTS_AT + count as usize * RESULT_LEN,
         Record::Close => MARK_LEN,
     }
 }

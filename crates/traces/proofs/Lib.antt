@@ -1,3 +1,4 @@
--- Bytes as a field, and examples of the lines.
+-- Bytes and packets as fields, and examples of the lines.
 pub mod Examples
 pub mod Fields
+pub mod Packets

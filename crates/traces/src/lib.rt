@@ -2,7 +2,9 @@
 use events::answer::Completion;
 use events::answer::Removed;
 use ground::writing::write;
+use limits::MAX_PACKETS;
 use messages::message::Transfer;
+use messages::message::iso_count;
 use numerals::text::Text;
 use numerals::text::added;
 use numerals::text::begun;
@@ -10,15 +12,21 @@ use numerals::text::ended;
 use numerals::text::put;
 use numerals::text::put_bytes;
 use numerals::text::with_number;
+use packets::packet::Packet;
+use wire::codes::DESCRIPTOR_LEN;
 use wire::codes::HEADER_LEN;
 use wire::codes::SETUP_LEN;
 ghost use Prim.Native.Nat.{ℕ, _+_, _*_, _≤_};
-ghost use mathlib.Core.List.{[], _∷_};
+ghost use mathlib.Core.List.{List, [], _∷_};
+ghost use lib.ListN.{take};
 ghost use Rattle.ground.specs.Writing.{Wrote};
+ghost use Rattle.limits.specs.Limits.{MAX-PACKETS};
+ghost use Rattle.packets.specs.declared.packet.Packet.{Packet};
 ghost use Rattle.events.specs.Answers.{removedOf, completionOf};
 ghost use Rattle.numerals.specs.Digits.{ascii, decimal};
-ghost use Rattle.numerals.specs.Texts.{TEXT-LEN, FIELD-LEN, fields, lineOf, textOf, TextHolds};
-ghost use Rattle.traces.specs.Traces.{RECORD-LEN, hexField, feedTrace, recordFields, recordTrace, dataTrace, removedTrace, headerTrace};
+ghost use Rattle.numerals.specs.Texts.{TEXT-LEN, WORD-LEN, FIELD-LEN, fields, lineOf, textOf, TextHolds};
+ghost use Rattle.traces.specs.Traces.{RECORD-LEN, hexField, feedTrace, recordFields, recordTrace, dataTrace};
+ghost use Rattle.traces.specs.Traces.{packetFields, packetsTrace, removedTrace, headerTrace};
 
 // A line whose last field is bytes.
 fn put_hex(t: Text, bytes: &[u8], out: &mut [u8]) -> usize
@@ -64,11 +72,12 @@ fn record_text(ticket: u64, t: Transfer) -> Text
     with_four(front, t.length, t.start, t.packets, t.interval)
 }
 
-// The same of an accepted submit's record, whatever its arrival, which isn't shown.
+// The same of an accepted submit's record, whatever its arrival, which isn't shown, and its packets, which have a line of their own.
 pub fn trace_record(ticket: u64, t: Transfer, setup: [u8; SETUP_LEN], out: &mut [u8]) -> usize
     ensures { λ n.
-        ⌜ ((arrival : ℕ)
-        → Wrote (recordTrace (record { ticket = ticket; transfer = t; setup = setup; arrival = arrival })) (now (out .entry)) (now (out .exit)) n) ⌝ }
+        ⌜ ((arrival : ℕ) (iso : List Packet)
+        → Wrote (recordTrace (record { ticket = ticket; transfer = t; setup = setup; arrival = arrival; iso = iso }))
+        (now (out .entry)) (now (out .exit)) n) ⌝ }
 {
     let numbers = record_text(ticket, t);
     put_hex(numbers, &setup, out)
@@ -80,6 +89,42 @@ pub fn trace_data(bytes: &[u8], out: &mut [u8]) -> usize
 {
     let w = begun(b"data");
     put_hex(w, bytes, out)
+}
+
+// A packet's two fields more.
+fn with_packet(t: Text, p: Packet) -> Text
+    requires { ⌜ t .len + 2 * FIELD-LEN ≤ TEXT-LEN ⌝ }
+    ensures { λ r. ⌜ TextHolds r (fields (textOf t) (packetFields (p ∷ []))) (t .len + 2 * FIELD-LEN) ⌝ }
+{
+    let o = with_number(t, p.offset as u64);
+    with_number(o, p.length as u64)
+}
+
+// The fields of the first n packets.
+fn packets_text(iso: [Packet; MAX_PACKETS], n: usize) -> Text
+    requires { ⌜ n ≤ MAX-PACKETS ⌝ }
+    ensures { λ r. ⌜ TextHolds r (fields (ascii "packets") (packetFields (take n iso))) (WORD-LEN + n * (2 * FIELD-LEN)) ⌝ }
+{
+    let mut text = begun(b"packets");
+    let mut i: usize = 0;
+    while i < n {
+        text = with_packet(text, iso[i]);
+        i += 1;
+    }
+    text
+}
+
+// The same of an accepted submit's packets; nothing where it isn't isochronous.
+pub fn trace_packets(packets: u32, iso: [Packet; MAX_PACKETS], out: &mut [u8]) -> usize
+    ensures { λ n. ⌜ Wrote (packetsTrace packets iso) (now (out .entry)) (now (out .exit)) n ⌝ }
+{
+    let n = iso_count(packets);
+    if n == 0 {
+        return 0;
+    }
+    let line = packets_text(iso, n);
+    let t = ended(line);
+    put(t, out)
 }
 
 // The same of what an unlink removed.
@@ -97,18 +142,20 @@ pub fn trace_removed(r: Removed, out: &mut [u8]) -> usize
     }
 }
 
-// The same of a completion and the header buffer that it left.
-pub fn trace_header(answer: Completion, header: &[u8], out: &mut [u8]) -> usize
-    ensures { λ n. ⌜ Wrote (headerTrace (completionOf answer) (now (header .entry))) (now (out .entry)) (now (out .exit)) n ⌝ }
+// The same of a completion of so many packets and the header buffer that it left.
+pub fn trace_header(packets: usize, answer: Completion, header: &[u8], out: &mut [u8]) -> usize
+    requires { ⌜ packets ≤ MAX-PACKETS ⌝ }
+    ensures { λ n. ⌜ Wrote (headerTrace packets (completionOf answer) (now (header .entry))) (now (out .entry)) (now (out .exit)) n ⌝ }
 {
     match answer {
         Completion::Return(wire, _) => {
             let w = begun(b"header");
             let t = with_number(w, wire);
-            if header.len() < HEADER_LEN {
+            let size = HEADER_LEN + packets * DESCRIPTOR_LEN;
+            if header.len() < size {
                 return put_hex(t, header, out);
             }
-            put_hex(t, &header[0..HEADER_LEN], out)
+            put_hex(t, &header[0..size], out)
         }
         Completion::Refused(_) => write(out, b"header 0 -\n"),
     }

@@ -1,17 +1,16 @@
 -- The whole goes out, in order, within as many steps as it has bytes.
 use Prim.Native.Nat.{ℕ, zero, suc, _+_, _-_, _≤_, min}
-use native.Mathlib.Nat.{add-sub-cancel-left}
 use native.Mathlib.Omega.{arith}
 use mathlib.Core.Bool.{Bool, true, false, cond}
 use mathlib.Core.List.{List, [], _++_, flatten}
 use mathlib.Core.Logic.{inl}
 use mathlib.Core.Path.{_≡_, refl, sym, ap₂, _∙_, subst₃}
 use lib.Dec.{eqb}
-use lib.ListN.{length, take}
+use lib.ListN.{length, take, drop}
 use lib.Seq.{take-add}
 use borrow.Author.Tests.{eqb-true}
 use Rattle.wire.specs.Codes.{HEADER-LEN, DIR-IN}
-use Rattle.transmit.specs.Part.{next, segments, partOf, sentAfter, outAfter, Sends, SentWhole, ReplySent}
+use Rattle.transmit.specs.Part.{next, behind, segments, partOf, sentAfter, outAfter, Sends, SentWhole, ReplySent}
 use Rattle.transmit.proofs.Segments.{next-in-place, next-within, next-at-most, next-advances, next-empty-iff}
 use Rattle.transmit.proofs.Parts.{flatten-segments, segments-length, part-next}
 
@@ -45,18 +44,22 @@ segments-sent ss =
       );
     }
 
--- a header and data
+-- a header, data and descriptors
 pub sent-whole : SentWhole
-sent-whole header frame n h f =
-    subst₃ Sends (λ i sent most. sym (part-next header frame n h f sent most) i) (flatten-segments header frame n)
-    (segments-length header frame n h f) (segments-sent (segments header frame n))
+sent-whole header frame n p h f =
+    subst₃ Sends (λ i sent most. sym (part-next header frame n p h f sent most) i) (flatten-segments header frame n p)
+    (segments-length header frame n p h f) (segments-sent (segments header frame n p))
 
 -- the reply to a completion
 pub reply-sent : ReplySent
-reply-sent header frame direction actual h f = go (eqb direction DIR-IN) refl
+reply-sent header frame direction actual p h f = go (eqb direction DIR-IN) refl
   where
     go : (t : Bool) → eqb direction DIR-IN ≡ t
-        → Sends (partOf header frame (HEADER-LEN + cond t actual 0 - HEADER-LEN))
-        (take HEADER-LEN header ++ cond t (take actual frame) []) (HEADER-LEN + cond t actual 0)
-    go true e = rw add-sub-cancel-left (sent-whole header frame actual h (f (eqb-true direction DIR-IN e)))
-    go false e = sent-whole header frame 0 h (omega arith)
+        → Sends (partOf header frame (HEADER-LEN + cond t actual 0 + behind p - HEADER-LEN - behind p) p)
+        (take HEADER-LEN header ++ cond t (take actual frame) [] ++ take (behind p) (drop HEADER-LEN header)) (HEADER-LEN + cond t actual 0 + behind p)
+    go true e =
+        let z : HEADER-LEN + actual + behind p - HEADER-LEN - behind p ≡ actual = omega arith in
+        rw z (sent-whole header frame actual p h (f (eqb-true direction DIR-IN e)))
+    go false e =
+        let z : HEADER-LEN + 0 + behind p - HEADER-LEN - behind p ≡ 0 = omega arith in
+        rw z (sent-whole header frame 0 p h (omega arith))

@@ -1,12 +1,12 @@
 -- Sending without copying (PROTOCOL.md, 9): the part that goes out next, and what is out after some steps.
-use Prim.Native.Nat.{ℕ, zero, suc, _+_, _-_, _≤_, _<_, min}
+use Prim.Native.Nat.{ℕ, zero, suc, _+_, _-_, _*_, _≤_, _<_, min}
 use mathlib.Core.Bool.{cond}
 use mathlib.Core.List.{List, [], _∷_, _++_}
 use mathlib.Core.Logic.{_⊎_}
 use mathlib.Core.Path.{_≡_}
 use lib.Dec.{ltb, eqb}
 use lib.ListN.{length, take, drop}
-use Rattle.wire.specs.Codes.{HEADER-LEN, DIR-IN}
+use Rattle.wire.specs.Codes.{HEADER-LEN, DESCRIPTOR-LEN, DIR-IN}
 
 -- ## One step
 
@@ -16,33 +16,38 @@ unfoldable pub next : List (List ℕ) → ℕ → ℕ → List ℕ
 next [] sent most = []
 next (s ∷ ss) sent most = cond (ltb sent (length s)) (take most (drop sent s)) (next ss (sent - length s) most)
 
--- A reply's segments: the header, then `n` bytes of data.
-abbrev pub segments : List ℕ → List ℕ → ℕ → List (List ℕ)
-segments header frame n = take HEADER-LEN header ∷ take n frame ∷ []
+-- The bytes of `p` descriptors: they stand behind the 48 in the header buffer.
+abbrev pub behind : ℕ → ℕ
+behind p = p * DESCRIPTOR-LEN
 
--- The part of a reply that goes out next; empty where the header or the data is too short.
-unfoldable pub partOf : List ℕ → List ℕ → ℕ → ℕ → ℕ → List ℕ
-partOf header frame n sent most =
-    cond (ltb (length header) HEADER-LEN) [] (cond (ltb (length frame) n) [] (next (segments header frame n) sent most))
+-- A reply's segments: the header, then `n` bytes of data, then `p` descriptors.
+abbrev pub segments : List ℕ → List ℕ → ℕ → ℕ → List (List ℕ)
+segments header frame n p = take HEADER-LEN header ∷ take n frame ∷ take (behind p) (drop HEADER-LEN header) ∷ []
+
+-- The part of a reply that goes out next; empty where the header buffer or the data is too short.
+unfoldable pub partOf : List ℕ → List ℕ → ℕ → ℕ → ℕ → ℕ → List ℕ
+partOf header frame n p sent most =
+    cond (ltb (length header) (HEADER-LEN + behind p)) [] (cond (ltb (length frame) n) [] (next (segments header frame n p) sent most))
 
 -- Where the segment ends to which the next byte belongs.
-abbrev pub segmentEnd : ℕ → ℕ → ℕ
-segmentEnd n sent = cond (ltb sent HEADER-LEN) HEADER-LEN (HEADER-LEN + n)
+abbrev pub segmentEnd : ℕ → ℕ → ℕ → ℕ
+segmentEnd n p sent = cond (ltb sent HEADER-LEN) HEADER-LEN (cond (ltb sent (HEADER-LEN + n)) (HEADER-LEN + n) (HEADER-LEN + n + behind p))
 
 -- The causes of an empty part.
-abbrev pub Causes : List ℕ → List ℕ → ℕ → ℕ → ℕ → Type 0
-Causes header frame n sent most =
-    (HEADER-LEN + n ≤ sent) ⊎ (most ≡ 0) ⊎ (length header < HEADER-LEN) ⊎ (length frame < n)
+abbrev pub Causes : List ℕ → List ℕ → ℕ → ℕ → ℕ → ℕ → Type 0
+Causes header frame n p sent most =
+    (HEADER-LEN + n + behind p ≤ sent) ⊎ (most ≡ 0) ⊎ (length header < HEADER-LEN + behind p) ⊎ (length frame < n)
 
 -- ## The reply to a completion
 
--- How many bytes it has on the wire: data for IN only.
-abbrev pub wireLength : ℕ → ℕ → ℕ
-wireLength direction actual = HEADER-LEN + cond (eqb direction DIR-IN) actual 0
+-- How many bytes it has on the wire: data for IN only, and `p` descriptors.
+abbrev pub wireLength : ℕ → ℕ → ℕ → ℕ
+wireLength direction actual p = HEADER-LEN + cond (eqb direction DIR-IN) actual 0 + behind p
 
 -- Its bytes on the wire.
-abbrev pub replyOf : List ℕ → List ℕ → ℕ → ℕ → List ℕ
-replyOf header frame direction actual = take HEADER-LEN header ++ cond (eqb direction DIR-IN) (take actual frame) []
+abbrev pub replyOf : List ℕ → List ℕ → ℕ → ℕ → ℕ → List ℕ
+replyOf header frame direction actual p =
+    take HEADER-LEN header ++ cond (eqb direction DIR-IN) (take actual frame) [] ++ take (behind p) (drop HEADER-LEN header)
 
 -- ## Step by step
 
@@ -64,7 +69,7 @@ abbrev pub outAfter : Sender → (ℕ → ℕ) → ℕ → List ℕ
 outAfter send most zero = []
 outAfter send most (suc k) = outAfter send most k ++ partAt send most k
 
--- "the whole goes out, in order, within 48 + n steps": a sender puts out a whole of `total` bytes, whatever each
+-- "the whole goes out, in order, within 48 + n + 16p steps": a sender puts out a whole of `total` bytes, whatever each
 -- step may send. The last two are of steps that may each send at least one byte.
 pub record Sends (send : Sender) (whole : List ℕ) (total : ℕ) : Type 0 where
   pub size : length whole ≡ total
@@ -75,13 +80,15 @@ pub record Sends (send : Sender) (whole : List ℕ) (total : ℕ) : Type 0 where
   pub all-out : (most : ℕ → ℕ) → ((k : ℕ) → 1 ≤ most k) → (k : ℕ) → total ≤ k
       → (sentAfter send most k ≡ total) × (partAt send most k ≡ [])
 
--- Of a header and data that are long enough, the whole is the header's first 48 bytes and then n of the data.
+-- Of a header buffer and data that are long enough, the whole is the header's first 48 bytes, then n of the data, then the 16p bytes
+-- behind the 48.
 abbrev pub SentWhole : Type 0
-SentWhole = (header frame : List ℕ) (n : ℕ) → HEADER-LEN ≤ length header → n ≤ length frame
-    → Sends (partOf header frame n) (take HEADER-LEN header ++ take n frame) (HEADER-LEN + n)
+SentWhole = (header frame : List ℕ) (n p : ℕ) → HEADER-LEN + behind p ≤ length header → n ≤ length frame
+    → Sends (partOf header frame n p) (take HEADER-LEN header ++ take n frame ++ take (behind p) (drop HEADER-LEN header)) (HEADER-LEN + n + behind p)
 
--- Of a completion's reply, sent with n = its length on the wire less 48: the header, and for IN the first actual_length bytes of
--- the data, which are there; else no data.
+-- Of a completion's reply, sent with n = its length on the wire less 48 and less 16p: the header; for IN the first actual_length bytes
+-- of the data, which are there, else no data; and the descriptors.
 abbrev pub ReplySent : Type 0
-ReplySent = (header frame : List ℕ) (direction actual : ℕ) → HEADER-LEN ≤ length header → (direction ≡ DIR-IN → actual ≤ length frame)
-    → Sends (partOf header frame (wireLength direction actual - HEADER-LEN)) (replyOf header frame direction actual) (wireLength direction actual)
+ReplySent = (header frame : List ℕ) (direction actual p : ℕ) → HEADER-LEN + behind p ≤ length header → (direction ≡ DIR-IN → actual ≤ length frame)
+    → Sends (partOf header frame (wireLength direction actual p - HEADER-LEN - behind p) p) (replyOf header frame direction actual p)
+    (wireLength direction actual p)

@@ -1,6 +1,6 @@
 -- Each table of tests matches its table of conditions: an answer is given exactly when its condition holds and none
 -- before it.
-use Prim.Native.Nat.{ℕ, suc, _%_, _<_}
+use Prim.Native.Nat.{ℕ, suc, _%_, _<_, _≤_}
 use native.Mathlib.Omega.{arith}
 use mathlib.Core.Path.{_≡_, refl}
 use mathlib.Core.Logic.{_↔_}
@@ -18,7 +18,7 @@ use Rattle.ground.specs.Tests.{Test, test}
 use Rattle.ground.specs.Rows.{Row, row}
 use Rattle.verdicts.specs.Verdicts.{Not, fault, feedTests, feedRows, requestTests, requestRows, transferTests, transferRows, headerTests, headerRows}
 use Rattle.verdicts.specs.Verdicts.{unlinkTests, unlinkRows, submitTests, submitRows, completionTests, completionRows}
-use Rattle.verdicts.specs.Verdicts.{nonIsochronous, NonIsochronous, shortRead, ShortRead}
+use Rattle.verdicts.specs.Verdicts.{nonIsochronous, NonIsochronous, goodCount, shortRead, ShortRead}
 use Rattle.verdicts.specs.declared.verdict.Completing.{Completing}
 use Rattle.verdicts.specs.declared.verdict.Fault.{Fault}
 use Rattle.ground.proofs.Match.{Match, Decides, before, guarded, either-match}
@@ -47,6 +47,13 @@ request-match r = (
   ),
 )
 
+-- a number_of_packets that isn't taken
+count-iff : (n : ℕ) → (not (goodCount n) ≡ true) ↔ ((Limits.MAX-PACKETS < n) × Not n Limits.NO-PACKETS)
+count-iff n =
+    let more : (n ≤ Limits.MAX-PACKETS → ⊥) ↔ (Limits.MAX-PACKETS < n) = ((λ h. omega (arith, h)), λ h l. omega (arith, h, l)) in
+    iff-trans (neither (leb-iff n Limits.MAX-PACKETS) (eqb-iff n Limits.NO-PACKETS))
+    ((λ h. (more .0 (h .0), h .1)), λ h. (more .1 (h .0), h .1))
+
 -- with whatever tests come behind them
 transfer-then : (t : Transfer) (ts : List (Test Fault)) (rs : List (Row Fault)) → Match ts rs → Match (transferTests t ++ ts) (transferRows t ++ rs)
 transfer-then t ts rs m = (
@@ -56,7 +63,7 @@ transfer-then t ts rs m = (
     refl,
     leb-iff (suc Limits.MAX-TRANSFER) (t .length),
     λ _.
-        (refl, neither (eqb-iff (t .packets) 0) (eqb-iff (t .packets) Limits.NO-PACKETS), λ _. m),
+        (refl, count-iff (t .packets), λ _. m),
   ),
 )
 
@@ -95,29 +102,35 @@ header-match h devid taken Taken Dirty t d =
     other true u e k = absurd (true≢false e)
     other false u e k = not-false u k
 
-pub submit-match : (h : Header) (devid pending accepted : ℕ) → Match (submitTests h devid pending accepted) (submitRows h devid pending accepted)
-submit-match h devid pending accepted = (
+pub submit-match : (h : Header) (devid : ℕ) (bad : Bool) (pending accepted : ℕ) (Bad : Type 0) → (bad ≡ true) ↔ Bad
+    → Match (submitTests h devid bad pending accepted) (submitRows h devid Bad pending accepted)
+submit-match h devid bad pending accepted Bad b = (
   refl,
   not-iff (eqb-iff (h .devid) devid),
   λ _. (
     refl,
     leb-iff (suc Limits.MAX-EP) (h .transfer .ep),
-    λ _.
-        (refl, or-iff (leb-iff Limits.MAX-PENDING pending) (leb-iff Limits.LAST-TICKET accepted), λ _. tt),
+    λ _. (
+      refl,
+      b,
+      λ _.
+          (refl, or-iff (leb-iff Limits.MAX-PENDING pending) (leb-iff Limits.LAST-TICKET accepted), λ _. tt),
+    ),
   ),
 )
 
 -- the last two rows are asked of the URB that the ticket names, where there is one
-pub completion-match : (c : Completing) (Closed Missing : Type 0) (Of : (ℕ → ℕ → Type 0) → Type 0)
+pub completion-match : (c : Completing) (Closed Missing : Type 0) (Of : (ℕ → ℕ → Type 0) → Type 0) (Misfit : Type 0)
     → (c .closed ≡ true) ↔ Closed → (not (c .found) ≡ true) ↔ Missing
     → (not (c .found) ≡ false → (P : ℕ → ℕ → Type 0) → P (c .length) (c .direction) ↔ Of P)
-    → Match (completionTests c) (completionRows c Closed Missing Of)
-completion-match c Closed Missing Of h m o = (
+    → (not (c .found) ≡ false → (not (c .fits) ≡ true) ↔ Misfit)
+    → Match (completionTests c) (completionRows c Closed Missing Of Misfit)
+completion-match c Closed Missing Of Misfit h m o k = (
   refl,
   h,
   λ _. (
     refl,
-    leb-iff (suc (c .header)) Codes.HEADER-LEN,
+    leb-iff (suc (c .header)) Limits.HEADER-ROOM,
     λ _. (
       refl,
       m,
@@ -126,7 +139,7 @@ completion-match c Closed Missing Of h m o = (
         iff-refl,
         λ _. (
           refl,
-          iff-trans (leb-iff (suc (c .length)) (c .actual)) (o f (λ length direction. length < c .actual)),
+          or-iff (iff-trans (leb-iff (suc (c .length)) (c .actual)) (o f (λ length direction. length < c .actual))) (k f),
           λ _. (
             refl,
             iff-trans (and-iff (eqb-iff (c .direction) Codes.DIR-IN) (leb-iff (suc (c .payload)) (c .actual)))

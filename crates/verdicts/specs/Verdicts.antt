@@ -54,6 +54,10 @@ nonIsochronous packets = eqb packets 0 || eqb packets Limits.NO-PACKETS
 abbrev pub NonIsochronous : ℕ → Type 0
 NonIsochronous packets = (packets ≡ 0) ⊎ (packets ≡ Limits.NO-PACKETS)
 
+-- A number_of_packets that is taken: 0 to 32, or the one that says "none".
+abbrev pub goodCount : ℕ → Bool
+goodCount packets = leb packets Limits.MAX-PACKETS || eqb packets Limits.NO-PACKETS
+
 -- ## Feed: before a byte is looked at
 
 -- A session that is closed, and the sizes of the lent buffers.
@@ -94,14 +98,14 @@ abbrev pub transferTests : Transfer → List (Test Fault)
 transferTests t =
     test (fault Limits.BAD-DIRECTION Codes.DIRECTION-AT) (ltb Codes.DIR-IN (t .direction))
     ∷ test (fault Limits.BAD-LENGTH Codes.LENGTH-AT) (ltb Limits.MAX-TRANSFER (t .length))
-    ∷ test (fault Limits.BAD-PACKETS Codes.PACKETS-AT) (not (nonIsochronous (t .packets)))
+    ∷ test (fault Limits.BAD-PACKETS Codes.PACKETS-AT) (not (goodCount (t .packets)))
     ∷ []
 
 abbrev pub transferRows : Transfer → List (Row Fault)
 transferRows t =
     row (fault Limits.BAD-DIRECTION Codes.DIRECTION-AT) (Codes.DIR-IN < t .direction)
     ∷ row (fault Limits.BAD-LENGTH Codes.LENGTH-AT) (Limits.MAX-TRANSFER < t .length)
-    ∷ row (fault Limits.BAD-PACKETS Codes.PACKETS-AT) (Not (t .packets) 0 × Not (t .packets) Limits.NO-PACKETS)
+    ∷ row (fault Limits.BAD-PACKETS Codes.PACKETS-AT) ((Limits.MAX-PACKETS < t .packets) × Not (t .packets) Limits.NO-PACKETS)
     ∷ []
 
 -- 17 and 18: an unlink, by its own fields and the devid of the device that is attached.
@@ -133,7 +137,7 @@ headerRows h devid taken dirty =
     row (fault Limits.BAD-COMMAND Codes.COMMAND-AT) (Not (h .command) Codes.CMD-SUBMIT × Not (h .command) Codes.CMD-UNLINK)
     ∷ row (fault Limits.BAD-DIRECTION Codes.DIRECTION-AT) (isSubmit × (Codes.DIR-IN < t .direction))
     ∷ row (fault Limits.BAD-LENGTH Codes.LENGTH-AT) (isSubmit × (Limits.MAX-TRANSFER < t .length))
-    ∷ row (fault Limits.BAD-PACKETS Codes.PACKETS-AT) (isSubmit × (Not (t .packets) 0 × Not (t .packets) Limits.NO-PACKETS))
+    ∷ row (fault Limits.BAD-PACKETS Codes.PACKETS-AT) (isSubmit × ((Limits.MAX-PACKETS < t .packets) × Not (t .packets) Limits.NO-PACKETS))
     ∷ row (fault Limits.SEQNUM-PENDING Codes.SEQNUM-AT) (isSubmit × taken)
     ∷ row (fault Limits.DIRTY-PADDING (h .dirty)) (isUnlink × dirty)
     ∷ row (fault Limits.BAD-DEVID Codes.DEVID-AT) (isUnlink × Not (h .devid) devid)
@@ -141,18 +145,22 @@ headerRows h devid taken dirty =
 
 -- ## Feed: a submit that passes is judged when its last byte is in, by status
 
--- By the devid of the device that is attached, and how many URBs are pending and were ever accepted.
-abbrev pub submitTests : Header → (devid pending accepted : ℕ) → List (Test ℕ)
-submitTests h devid pending accepted =
+-- By the devid of the device that is attached, whether it is isochronous and its packets are bad, and how many URBs are pending and were
+-- ever accepted.
+abbrev pub submitTests : Header → (devid : ℕ) → (bad : Bool) → (pending accepted : ℕ) → List (Test ℕ)
+submitTests h devid bad pending accepted =
     test (minus Codes.ENODEV) (not (eqb (h .devid) devid))
     ∷ test (minus Codes.EINVAL) (ltb Limits.MAX-EP (h .transfer .ep))
+    ∷ test (minus Codes.EINVAL) bad
     ∷ test (minus Codes.ENOMEM) (leb Limits.MAX-PENDING pending || leb Limits.LAST-TICKET accepted)
     ∷ []
 
-abbrev pub submitRows : Header → (devid pending accepted : ℕ) → List (Row ℕ)
-submitRows h devid pending accepted =
+-- bad: the submit is isochronous, and its packets aren't good.
+abbrev pub submitRows : Header → (devid : ℕ) → (bad : Type 0) → (pending accepted : ℕ) → List (Row ℕ)
+submitRows h devid bad pending accepted =
     row (minus Codes.ENODEV) (Not (h .devid) devid)
     ∷ row (minus Codes.EINVAL) (Limits.MAX-EP < h .transfer .ep)
+    ∷ row (minus Codes.EINVAL) bad
     ∷ row (minus Codes.ENOMEM) ((Limits.MAX-PENDING ≤ pending) ⊎ (Limits.LAST-TICKET ≤ accepted))
     ∷ []
 
@@ -161,21 +169,22 @@ submitRows h devid pending accepted =
 abbrev pub completionTests : Completing → List (Test ℕ)
 completionTests c =
     test Limits.SESSION-CLOSED (c .closed)
-    ∷ test Limits.SHORT-BUFFER (ltb (c .header) Codes.HEADER-LEN)
+    ∷ test Limits.SHORT-BUFFER (ltb (c .header) Limits.HEADER-ROOM)
     ∷ test Limits.NOT-PENDING (not (c .found))
     ∷ test Limits.STATUS-ABOVE-0 (positive (signedOf (c .status)))
-    ∷ test Limits.ACTUAL-TOO-LONG (ltb (c .length) (c .actual))
+    ∷ test Limits.MISFIT (ltb (c .length) (c .actual) || not (c .fits))
     ∷ test Limits.SHORT-DATA (eqb (c .direction) Codes.DIR-IN && ltb (c .payload) (c .actual))
     ∷ []
 
--- Of P: the pending URB that the ticket names has a length and a direction with P.
-abbrev pub completionRows : Completing → (closed missing : Type 0) → (Of : (ℕ → ℕ → Type 0) → Type 0) → List (Row ℕ)
-completionRows c closed missing Of =
+-- Of P: the pending URB that the ticket names has a length and a direction with P; misfit: it has a kind or packets that the completion
+-- doesn't fit.
+abbrev pub completionRows : Completing → (closed missing : Type 0) → (Of : (ℕ → ℕ → Type 0) → Type 0) → (misfit : Type 0) → List (Row ℕ)
+completionRows c closed missing Of misfit =
     row Limits.SESSION-CLOSED closed
-    ∷ row Limits.SHORT-BUFFER (c .header < Codes.HEADER-LEN)
+    ∷ row Limits.SHORT-BUFFER (c .header < Limits.HEADER-ROOM)
     ∷ row Limits.NOT-PENDING missing
     ∷ row Limits.STATUS-ABOVE-0 (positive (signedOf (c .status)) ≡ true)
-    ∷ row Limits.ACTUAL-TOO-LONG (Of (λ length direction. length < c .actual))
+    ∷ row Limits.MISFIT (Of (λ length direction. length < c .actual) ⊎ misfit)
     ∷ row Limits.SHORT-DATA (Of (λ length direction. (direction ≡ Codes.DIR-IN) × (c .payload < c .actual)))
     ∷ []
 

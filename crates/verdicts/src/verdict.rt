@@ -1,6 +1,5 @@
 // The decisions: each goes through its table in order and gives the answer of the first test that holds. There are three kinds
 // of "no": an act's own refusal, a fault of the stream, a status that a submit is answered.
-use limits::ACTUAL_TOO_LONG;
 use limits::BAD_CODE;
 use limits::BAD_COMMAND;
 use limits::BAD_DEVID;
@@ -9,10 +8,13 @@ use limits::BAD_LENGTH;
 use limits::BAD_PACKETS;
 use limits::BAD_VERSION;
 use limits::DIRTY_PADDING;
+use limits::HEADER_ROOM;
 use limits::LAST_TICKET;
 use limits::MAX_EP;
+use limits::MAX_PACKETS;
 use limits::MAX_PENDING;
 use limits::MAX_TRANSFER;
+use limits::MISFIT;
 use limits::NO_PACKETS;
 use limits::NOT_PENDING;
 use limits::REPLY_LEN;
@@ -53,7 +55,7 @@ ghost use lib.Dec.{eqb, ltb};
 ghost use Rattle.wire.specs.Codes;
 ghost use Rattle.ground.specs.Tests.{first};
 ghost use Rattle.verdicts.specs.Verdicts.{admissionOf, readingOf, acceptanceOf, fault, feedTests, requestTests, transferTests, headerTests, submitTests};
-ghost use Rattle.verdicts.specs.Verdicts.{unlinkTests, nonIsochronous, completionTests, shortRead, statusSent};
+ghost use Rattle.verdicts.specs.Verdicts.{unlinkTests, nonIsochronous, goodCount, completionTests, shortRead, statusSent};
 
 // An act is admitted, or refused by number.
 pub enum Admission {
@@ -139,6 +141,16 @@ fn non_isochronous(packets: u32) -> bool
     packets == NO_PACKETS
 }
 
+// A number_of_packets that is taken.
+fn good_count(packets: u32) -> bool
+    ensures { λ r. ⌜ r ≡ goodCount packets ⌝ }
+{
+    if packets as usize <= MAX_PACKETS {
+        return true;
+    }
+    packets == NO_PACKETS
+}
+
 // A submit, by its own fields alone.
 pub fn transfer_fault(t: Transfer) -> Reading
     ensures { λ v. ⌜ v ≡ readingOf (first (transferTests t)) ⌝ }
@@ -149,7 +161,7 @@ pub fn transfer_fault(t: Transfer) -> Reading
     if MAX_TRANSFER < t.length {
         return faulty(BAD_LENGTH, LENGTH_AT);
     }
-    if !non_isochronous(t.packets) {
+    if !good_count(t.packets) {
         return faulty(BAD_PACKETS, PACKETS_AT);
     }
     Reading::Sound
@@ -195,14 +207,18 @@ pub fn header_fault(h: Header, devid: u64, taken: bool) -> Reading
     Reading::Sound
 }
 
-// A submit, when its last byte is in: by the devid that is attached, and how many are pending and were ever accepted.
-pub fn submit_status(h: Header, devid: u64, pending: usize, accepted: u64) -> Acceptance
-    ensures { λ v. ⌜ v ≡ acceptanceOf (first (submitTests h devid pending accepted)) ⌝ }
+// A submit, when its last byte is in: by the devid that is attached, whether its packets are bad, and how many are pending and were ever
+// accepted.
+pub fn submit_status(h: Header, devid: u64, bad: bool, pending: usize, accepted: u64) -> Acceptance
+    ensures { λ v. ⌜ v ≡ acceptanceOf (first (submitTests h devid bad pending accepted)) ⌝ }
 {
     if for_another(h, devid) {
         return Acceptance::Answered(MINUS_ENODEV);
     }
     if MAX_EP < h.transfer.ep {
+        return Acceptance::Answered(MINUS_EINVAL);
+    }
+    if bad {
         return Acceptance::Answered(MINUS_EINVAL);
     }
     if MAX_PENDING <= pending {
@@ -214,8 +230,8 @@ pub fn submit_status(h: Header, devid: u64, pending: usize, accepted: u64) -> Ac
     Acceptance::Accepted
 }
 
-// What a completion is judged by: the session, the buffers' lengths (payload: the device data's), what it says, and the length
-// and direction of the URB that was found under its ticket.
+// What a completion is judged by: the session, the buffers' lengths (payload: the device data's), what it says, the length and
+// direction of the URB that was found under its ticket, and whether the completion's kind and packets fit that URB's.
 pub struct Completing {
     pub closed: bool,
     pub header: usize,
@@ -225,6 +241,7 @@ pub struct Completing {
     pub payload: usize,
     pub length: u32,
     pub direction: u32,
+    pub fits: bool,
 }
 
 // An IN transfer takes its data from the device's, payload bytes long.
@@ -243,7 +260,7 @@ pub fn completion_refusal(c: Completing) -> Admission
     if c.closed {
         return Admission::Refused(SESSION_CLOSED);
     }
-    if c.header < HEADER_LEN {
+    if c.header < HEADER_ROOM {
         return Admission::Refused(SHORT_BUFFER);
     }
     if !c.found {
@@ -253,7 +270,10 @@ pub fn completion_refusal(c: Completing) -> Admission
         return Admission::Refused(STATUS_ABOVE_0);
     }
     if c.length < c.actual {
-        return Admission::Refused(ACTUAL_TOO_LONG);
+        return Admission::Refused(MISFIT);
+    }
+    if !c.fits {
+        return Admission::Refused(MISFIT);
     }
     if short_data(c.direction, c.payload, c.actual) {
         return Admission::Refused(SHORT_DATA);

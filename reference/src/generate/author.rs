@@ -2,13 +2,15 @@
 
 use super::bad::BAD_ENDS;
 use crate::random::Random;
-use crate::session::{Session, LEAST_REPLY, LEAST_WORK};
-use crate::tape::{self, Completion, Record, BUSID, DEVICE_DATA_SIZE};
-use crate::wire::{op_req_devlist, op_req_import_of, HEADER_SIZE};
+use crate::session::{Session, LEAST_HEADER, LEAST_REPLY, LEAST_WORK};
+use crate::tape::{self, Completion, IsoCompletion, Record, BUSID, DEVICE_DATA_SIZE};
+use crate::wire::{op_req_devlist, op_req_import_of};
 use std::mem;
 
 mod completions;
 mod endings;
+mod iso_completions;
+mod iso_submits;
 mod messages;
 
 pub struct Author {
@@ -66,8 +68,9 @@ impl Author {
             32..=54 => self.complete_good(),
             55..=64 => self.complete_odd(),
             65..=76 => self.unlink(),
-            77..=83 => self.submit_refused(),
-            84..=89 => self.submit_between_completions(),
+            77..=81 => self.submit_refused(),
+            82..=84 => self.submit_bad_packets(),
+            85..=89 => self.submit_between_completions(),
             90..=92 => self.flood(),
             93..=95 => self.late_picture(),
             96..=97 => self.free_in_time(),
@@ -116,7 +119,7 @@ impl Author {
 
     fn complete(&mut self, completion: Completion) {
         let data = [0; DEVICE_DATA_SIZE];
-        let mut header = [0; HEADER_SIZE];
+        let mut header = [0; LEAST_HEADER];
         // Refusals are as welcome as returns.
         let _ = self.session.complete(
             completion.ticket,
@@ -126,6 +129,20 @@ impl Author {
             &mut header,
         );
         self.records.push(Record::Complete(completion));
+    }
+
+    fn complete_iso(&mut self, completion: IsoCompletion) {
+        let data = [0; DEVICE_DATA_SIZE];
+        let mut header = [0; LEAST_HEADER];
+        let _ = self.session.complete_iso(
+            completion.ticket,
+            completion.status,
+            completion.total(),
+            &completion.results,
+            &data,
+            &mut header,
+        );
+        self.records.push(Record::CompleteIso(completion));
     }
 
     fn close(&mut self) {

@@ -2,7 +2,9 @@ use super::*;
 use crate::capture::{self, bytes};
 use crate::sending;
 use crate::tape;
-use crate::wire::{op_rep_devlist, op_req_devlist, op_req_import_of};
+use crate::wire::{op_rep_devlist, op_req_devlist, op_req_import_of, URB_SHORT_NOT_OK};
+
+mod isochronous;
 
 const DEVID: u32 = 0x0001_000f;
 /// A byte that no reply is made of, to see what wasn't written.
@@ -13,7 +15,7 @@ struct Deck {
     session: Session,
     work: Vec<u8>,
     reply: Vec<u8>,
-    header: [u8; HEADER_SIZE],
+    header: [u8; LEAST_HEADER],
 }
 
 impl Deck {
@@ -24,7 +26,7 @@ impl Deck {
             session,
             work: vec![UNTOUCHED; LEAST_WORK],
             reply: vec![UNTOUCHED; LEAST_REPLY],
-            header: [UNTOUCHED; HEADER_SIZE],
+            header: [UNTOUCHED; LEAST_HEADER],
         }
     }
 
@@ -190,6 +192,7 @@ mod known_exchanges {
             interval: 4,
             setup: [0; 8],
             arrival: 0,
+            packets: vec![],
         };
         let fed = deck.feed(&message);
         assert_eq!((fed.consumed, fed.length), (48, 0));
@@ -273,7 +276,7 @@ mod known_exchanges {
     fn sent(header: &[u8], data: &[u8], length: usize) -> Vec<u8> {
         let mut sent = Vec::new();
         while sent.len() < length {
-            let part = sending::part(header, data, length - HEADER_SIZE, sent.len(), 3);
+            let part = sending::part(header, data, length - HEADER_SIZE, 0, sent.len(), 3);
             sent.extend(part);
         }
         sent
@@ -289,7 +292,7 @@ mod known_exchanges {
         assert!(matches!(fed.event, Event::Accepted(_)));
         assert_eq!(deck.work[..64], out_data);
 
-        let mut header = [0; HEADER_SIZE];
+        let mut header = [0; LEAST_HEADER];
         let session = &mut deck.session;
         let out = session.complete(2, 0, 64, &[], &mut header).unwrap();
         let whole = sent(&header, &[], out.length);
@@ -309,7 +312,7 @@ mod refusals {
     fn small_buffers_at_every_feed() {
         for mut deck in [Deck::waiting(tape::table()), Deck::attached()] {
             let before = deck.session.clone();
-            for (work, reply) in [(LEAST_WORK - 1, LEAST_REPLY), (LEAST_WORK, LEAST_REPLY - 1)] {
+            for (work, reply) in [(16_895, LEAST_REPLY), (LEAST_WORK, 8_191)] {
                 for piece in [&[][..], &[1], &op_req_devlist()] {
                     let work = &mut deck.work[..work];
                     let fed = deck.session.feed(piece, work, &mut deck.reply[..reply], 0);
@@ -327,10 +330,10 @@ mod refusals {
         let mut deck = Deck::with_pending(1);
         let before = deck.session.clone();
         for ticket in [1, 2] {
-            let mut header = [UNTOUCHED; 47];
+            let mut header = [UNTOUCHED; 559];
             let result = deck.session.complete(ticket, 1, 65, &[], &mut header);
             assert_eq!(result, Err(Refusal::SmallBuffer));
-            assert_eq!(header, [UNTOUCHED; 47]);
+            assert_eq!(header, [UNTOUCHED; 559]);
         }
         assert_eq!(deck.session, before);
     }
@@ -372,13 +375,13 @@ mod refusals {
             ((1 << 32) + 1, 0, 0, Refusal::NotPending),
             (1, 1, 65, Refusal::PositiveStatus),
             (1, i32::MAX, 0, Refusal::PositiveStatus),
-            (1, 0, 65, Refusal::ActualLength),
-            (1, -1, u32::MAX, Refusal::ActualLength),
+            (1, 0, 65, Refusal::Misfit),
+            (1, -1, u32::MAX, Refusal::Misfit),
         ] {
             assert_eq!(deck.complete(ticket, status, length), Err(refusal));
         }
         assert_eq!(deck.session, before);
-        assert_eq!(deck.header, [UNTOUCHED; HEADER_SIZE]);
+        assert_eq!(deck.header, [UNTOUCHED; LEAST_HEADER]);
         assert_eq!(deck.complete(1, i32::MIN, 64), Ok(112));
     }
 
@@ -392,7 +395,7 @@ mod refusals {
     fn short_data_for_in_only() {
         let mut deck = Deck::with_pending(1);
         deck.feed(&[&intr_out(2).header()[..], &[0; 64]].concat());
-        let mut header = [UNTOUCHED; HEADER_SIZE];
+        let mut header = [UNTOUCHED; LEAST_HEADER];
         let session = &mut deck.session;
         let short = session.complete(1, 0, 64, &[0; 63], &mut header);
         assert_eq!(short, Err(Refusal::ShortData));
@@ -468,7 +471,7 @@ mod breaks {
             seqnum: 1,
             direction: 2,
             transfer_buffer_length: u32::MAX,
-            number_of_packets: 1,
+            number_of_packets: 33,
             ..intr_in(1)
         };
         let mut header = worst.header();
@@ -763,7 +766,7 @@ mod tickets {
             submit.interval = 9;
             submit.setup = [9; 8];
         }));
-        let mut header = [UNTOUCHED; 49];
+        let mut header = [UNTOUCHED; LEAST_HEADER];
         let result = deck.session.complete(1, -32, 3, &[0; 3], &mut header);
         let failed = Returned {
             length: 51,
@@ -775,7 +778,7 @@ mod tickets {
         );
         words.resize(48, 0);
         assert_eq!(header[..48], words);
-        assert_eq!(header[48], UNTOUCHED);
+        assert_eq!(header[48..], [UNTOUCHED; LEAST_HEADER - 48]);
     }
 }
 

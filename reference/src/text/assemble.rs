@@ -1,8 +1,8 @@
 //! From text to tape.
 
 use super::fields::Fields;
-use super::{items, message};
-use crate::tape::{Completion, Record};
+use super::{items, message, packets};
+use crate::tape::{Completion, IsoCompletion, Record};
 use std::fmt;
 use std::io::{self, BufRead, Write};
 
@@ -84,8 +84,13 @@ fn parse_line(line: &str) -> Result<Line, String> {
             let bytes = items::parse(operands)?;
             Ok(Line::Stream { joined, bytes })
         }
+        "packets" => {
+            let bytes = packets::parse(operands)?;
+            Ok(Line::Stream { joined, bytes })
+        }
         _ if joined => Err(format!("not stream bytes: {verb}")),
         "complete" => Ok(Line::Record(Record::Complete(parse_completion(operands)?))),
+        "complete-iso" => Ok(Line::Record(Record::CompleteIso(parse_iso(operands)?))),
         "close" if operands.is_empty() => Ok(Line::Record(Record::Close)),
         "raw" => Ok(Line::Raw(items::parse(operands)?)),
         _ => Err(format!("no such line: {}", words.join(" "))),
@@ -98,6 +103,19 @@ fn parse_completion(operands: &[&str]) -> Result<Completion, String> {
         ticket: fields.number("ticket")?,
         status: fields.number("status")?,
         actual_length: fields.number("actual")?,
+    };
+    fields.finish()?;
+    Ok(completion)
+}
+
+fn parse_iso(operands: &[&str]) -> Result<IsoCompletion, String> {
+    let (named, results): (Vec<&str>, Vec<&str>) =
+        operands.iter().partition(|word| word.contains('='));
+    let mut fields = Fields::parse(&named)?;
+    let completion = IsoCompletion {
+        ticket: fields.number("ticket")?,
+        status: fields.number("status")?,
+        results: packets::parse_results(&results)?,
     };
     fields.finish()?;
     Ok(completion)

@@ -1,9 +1,11 @@
 //! From tape to text.
 
-use super::{items, message};
+use super::{items, message, packets};
 use crate::session::MAX_TRANSFER_BUFFER_LENGTH;
-use crate::tape::{Completion, Item, Reader, Record};
-use crate::wire::{be16, Command, HEADER_SIZE, OP_COMMON_SIZE, OP_REQ_IMPORT, OP_REQ_IMPORT_SIZE};
+use crate::tape::{Completion, IsoCompletion, Item, Reader, Record};
+use crate::wire::{
+    be16, Command, DESCRIPTOR_SIZE, HEADER_SIZE, OP_COMMON_SIZE, OP_REQ_IMPORT, OP_REQ_IMPORT_SIZE,
+};
 use std::io::{self, Read, Write};
 use std::mem;
 
@@ -19,6 +21,9 @@ pub fn dump(tape: impl Read, mut output: impl Write) -> io::Result<()> {
             Item::Record(Record::Stream(piece)) => stream.dump(&piece, &mut output)?,
             Item::Record(Record::Complete(completion)) => {
                 dump_completion(&completion, &mut output)?
+            }
+            Item::Record(Record::CompleteIso(completion)) => {
+                dump_iso_completion(&completion, &mut output)?
             }
             Item::Record(Record::Close) => writeln!(output, "close")?,
             Item::Bad(bytes) => {
@@ -36,6 +41,18 @@ fn dump_completion(completion: &Completion, output: &mut impl Write) -> io::Resu
         "complete ticket={} status={} actual={}",
         completion.ticket, completion.status, completion.actual_length
     )
+}
+
+fn dump_iso_completion(completion: &IsoCompletion, output: &mut impl Write) -> io::Result<()> {
+    write!(
+        output,
+        "complete-iso ticket={} status={}",
+        completion.ticket, completion.status
+    )?;
+    for result in &completion.results {
+        write!(output, " {}", packets::format_result(result))?;
+    }
+    writeln!(output)
 }
 
 fn dump_raw(bytes: &[u8], output: &mut impl Write) -> io::Result<()> {
@@ -62,10 +79,14 @@ fn dump_rest(mut rest: impl Read, mut output: impl Write) -> io::Result<()> {
 #[derive(Default)]
 struct Stream {
     attached: bool,
-    /// The message in progress, without its OUT data.
+    /// The message in progress, without its body.
     head: Vec<u8>,
     /// OUT data still to come.
     data_left: usize,
+    /// Bytes of packet descriptors still to come.
+    descriptors_left: usize,
+    /// What is in of a descriptor that is cut.
+    descriptor: Vec<u8>,
 }
 
 impl Stream {
@@ -77,6 +98,11 @@ impl Stream {
                 self.data_left -= data.len();
                 lines.extend(item_lines("data", data));
                 piece = rest;
+            } else if self.descriptors_left > 0 {
+                let (bytes, rest) = piece.split_at(self.descriptors_left.min(piece.len()));
+                self.descriptors_left -= bytes.len();
+                lines.extend(self.descriptor_lines(bytes));
+                piece = rest;
             } else {
                 let (head, rest) = piece.split_at(self.fill_head(piece));
                 lines.extend(self.head_lines(head));
@@ -84,6 +110,23 @@ impl Stream {
             }
         }
         write_record(&lines, output)
+    }
+
+    /// Whole descriptors as packets, and what is cut as bytes.
+    fn descriptor_lines(&mut self, bytes: &[u8]) -> Vec<String> {
+        let missing = (DESCRIPTOR_SIZE - self.descriptor.len()) % DESCRIPTOR_SIZE;
+        let (first, bytes) = bytes.split_at(missing.min(bytes.len()));
+        let mut lines = item_lines("bytes", first);
+        self.descriptor.extend(first);
+        if self.descriptor.len() == DESCRIPTOR_SIZE {
+            let whole = packets::lines(&mem::take(&mut self.descriptor));
+            lines.extend(whole.iter().map(|line| format!("# which ends: {line}")));
+        }
+        let (whole, last) = bytes.split_at(bytes.len() / DESCRIPTOR_SIZE * DESCRIPTOR_SIZE);
+        lines.extend(packets::lines(whole));
+        lines.extend(item_lines("bytes", last));
+        self.descriptor.extend(last);
+        lines
     }
 
     /// Adds to the head what the piece has of it, and tells how much that is.
@@ -134,6 +177,7 @@ impl Stream {
         if let Some(Command::Submit(submit)) = Command::read(message) {
             if submit.transfer_buffer_length <= MAX_TRANSFER_BUFFER_LENGTH {
                 self.data_left = submit.data_size();
+                self.descriptors_left = submit.body_size() - submit.data_size();
             }
         }
     }

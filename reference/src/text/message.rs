@@ -79,13 +79,14 @@ fn parse_setup(digits: Option<&str>) -> Result<[u8; 8], String> {
     setup.ok_or(format!("not 8 bytes: {digits}"))
 }
 
-fn cut(message: &[u8], range: &str) -> Option<Vec<u8>> {
+/// The bytes of a range `A..B`.
+pub fn cut(message: &[u8], range: &str) -> Option<Vec<u8>> {
     let (start, end) = range.split_once("..")?;
     let bytes = message.get(number(start)?..number(end)?)?;
     Some(bytes.to_vec())
 }
 
-/// The line for a message without its OUT data, if one gives these very bytes.
+/// The line for a message without its body, if one gives these very bytes.
 pub fn format(message: &[u8]) -> Option<String> {
     let line = match message.len() {
         OP_COMMON_SIZE => "list".to_string(),

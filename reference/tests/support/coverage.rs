@@ -1,5 +1,6 @@
-//! Which kinds of lines and of bad tapes were reached, and how often.
+//! Which kinds of lines, of isochronous transfers and of bad tapes were reached, and how often.
 
+use super::witness;
 use reference::generate::{BadEnd, BAD_ENDS};
 use reference::tape::{Item, Reader};
 use std::collections::BTreeMap;
@@ -31,6 +32,7 @@ const LINES: &[&str] = &[
     "import 0",
     "import 1",
     "list",
+    "packets",
     "record with ep 15",
     "record with length 16384",
     "record",
@@ -53,6 +55,7 @@ const LINES: &[&str] = &[
     "whole read with flag 1: 0",
     "read of length 0 with flag 1: 0",
     "short write with flag 1: 0",
+    "short read of packets with flag 1: 0",
     "submit",
     "unlink -104",
     "unlink 0",
@@ -81,6 +84,9 @@ impl Coverage {
                 self.count(kind);
             }
         }
+        for kind in witness::kinds(tape) {
+            self.count(kind);
+        }
         if let Some(end) = bad_end(tape) {
             self.count(format!("bad tape: {end:?}"));
         }
@@ -99,6 +105,7 @@ impl Coverage {
         let dirty = dirty_offsets().map(|offset| format!("broken 17 at {offset}"));
         let wanted: Vec<String> = LINES
             .iter()
+            .chain(witness::KINDS)
             .map(|line| line.to_string())
             .chain(dirty)
             .chain(ends)
@@ -173,6 +180,9 @@ fn return_kinds(line: &str, urbs: &BTreeMap<&str, Urb>) -> Vec<String> {
     let actual: u32 = actual.parse().expect("a length");
     let (is_read, flag) = (urb.direction == 1, urb.flags & 1 != 0);
     match (is_read, flag, actual < urb.length, status) {
+        (true, true, true, "0" | "-121") if matches!(urb.packets, 1..=32) => {
+            vec![format!("short read of packets with flag 1: {status}")]
+        }
         (true, true, true, "0" | "-121") => short_read_kinds(urb, actual, status),
         (true, true, true, _) => vec!["short read that failed: as given".to_string()],
         (true, true, false, "0") if urb.length == 0 => {

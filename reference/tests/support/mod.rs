@@ -2,3 +2,4 @@
 
 pub mod coverage;
 pub mod programs;
+mod witness;

@@ -101,6 +101,49 @@ pub fn submit_out(seqnum: u32, data: &[u8]) -> Vec<u8> {
     message
 }
 
+/// USBIP_CMD_SUBMIT for isochronous IN: offset and length of each packet.
+pub fn submit_iso(seqnum: u32, length: u32, packets: &[(u32, u32)]) -> Vec<u8> {
+    let count = packets.len() as u32;
+    let mut message = header(&[1, seqnum, DEVID, 1, 3, 0, length, 0, count]);
+    message.extend(descriptors(packets));
+    message
+}
+
+/// USBIP_CMD_SUBMIT for isochronous OUT, with its data, of which each packet is the next so many bytes.
+pub fn submit_iso_out(seqnum: u32, data: &[u8], lengths: &[u32]) -> Vec<u8> {
+    let (length, count) = (data.len() as u32, lengths.len() as u32);
+    let ends = lengths.iter().scan(0, |end, &length| {
+        *end += length;
+        Some((*end - length, length))
+    });
+    let mut message = header(&[1, seqnum, DEVID, 0, 4, 0, length, 0, count]);
+    message.extend(data);
+    message.extend(descriptors(&ends.collect::<Vec<_>>()));
+    message
+}
+
+/// A request's descriptors. Their last two fields have no effect.
+fn descriptors(packets: &[(u32, u32)]) -> Vec<u8> {
+    let fields = |&(offset, length): &(u32, u32)| [offset, length, 0x0102_0304, 0x0506_0708];
+    packets
+        .iter()
+        .flat_map(fields)
+        .flat_map(u32::to_be_bytes)
+        .collect()
+}
+
+/// A RET_SUBMIT's descriptors: offset, length, actual length and status of each packet.
+pub fn returned_descriptors(packets: &[(u32, u32, u32, i32)]) -> Vec<u8> {
+    let fields = |&(offset, length, actual, status): &(u32, u32, u32, i32)| {
+        [offset, length, actual, status as u32]
+    };
+    packets
+        .iter()
+        .flat_map(fields)
+        .flat_map(u32::to_be_bytes)
+        .collect()
+}
+
 /// USBIP_CMD_UNLINK.
 pub fn unlink(seqnum: u32, unlink_seqnum: u32) -> Vec<u8> {
     header(&[2, seqnum, DEVID, 0, 0, unlink_seqnum])

@@ -1,8 +1,9 @@
 use native.Mathlib.Omega.{arith}
+use Prim.Native.Nat.{_+_, _-_, _*_}
 use mathlib.Core.Path.{_≡_}
 use lib.ListN.{take}
 use lib.Seq.{take-all}
-use Rattle.wire.specs.Codes.{HEADER-LEN}
+use Rattle.wire.specs.Codes.{HEADER-LEN, DESCRIPTOR-LEN}
 use Rattle.numerals.specs.Digits.{numeral, digits}
 use borrow.Author.Needs.{needs}
 use Rattle.traces.proofs.trace_header.Statement.{statement}
@@ -20,6 +21,12 @@ begun-requires c κs = search needs
 with-number-requires : tie.Need-with-number-requires
 with-number-requires c κs = search needs
 
+mul-size : tie.Need-mul-size
+mul-size c = search needs
+
+add-size : tie.Need-add-size
+add-size c = search needs
+
 put-hex-requires : tie.Need-put-hex-requires
 put-hex-requires c κs = search needs
 
@@ -31,7 +38,8 @@ returns c =
     let k = c .before .before in
     let t = k .before .before .before in
     let s = t .before .before .before .before .before .before .before .before in
-    let e : take HEADER-LEN (s .args .header .now) ≡ s .args .header .now = take-all HEADER-LEN (s .args .header .now) (omega arith) in
+    let n = HEADER-LEN + s .args .packets * DESCRIPTOR-LEN in
+    let e : take n (s .args .header .now) ≡ s .args .header .now = take-all n (s .args .header .now) (omega arith) in
     rw (t .before .before .before .before .answer .given .1, e) (rw (t .with-number .ensures .text, t .before .begun .ensures .text) at (k .put-hex .ensures))
 
 sub-put-hex : tie.Need-sub-put-hex
@@ -62,7 +70,11 @@ returns-2 : tie.Need-returns-2
 returns-2 c =
     let k = c .before .before in
     let t = k .before .before .before .before in
-    rw (t .before .before .before .before .answer .given .1) (rw (t .with-number .ensures .text, t .before .begun .ensures .text) at (k .put-hex2 .ensures))
+    let s = t .before .before .before .before .before .before .before .before in
+    let n = HEADER-LEN + s .args .packets * DESCRIPTOR-LEN in
+    let e : n - 0 ≡ n = omega arith in
+    rw (t .before .before .before .before .answer .given .1)
+    (rw (t .with-number .ensures .text, t .before .begun .ensures .text, e) at (k .put-hex2 .ensures))
 
 same-length-3 : tie.Need-same-length-3
 same-length-3 c = search needs
@@ -81,6 +93,8 @@ trace-header-spec =
     slice-aggregate-begun
     begun-requires
     with-number-requires
+    mul-size
+    add-size
     put-hex-requires
     same-length
     returns

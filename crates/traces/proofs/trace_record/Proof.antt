@@ -15,7 +15,7 @@ same-length : tie.Need-same-length
 same-length c = search needs
 
 returns : tie.Need-returns
-returns c arrival =
+returns c arrival iso =
     let k = c .before .before in
     rw (k .before .before .before .record-text .ensures .text) at (k .put-hex .ensures)
 

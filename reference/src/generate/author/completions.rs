@@ -12,14 +12,23 @@ impl Author {
         }
     }
 
+    /// Of the kind that the URB is, if anything is pending.
     pub(super) fn complete_good(&mut self) {
-        let completion = self.completion();
-        self.complete(completion);
+        match self.pick_pending() {
+            Some(urb) if urb.is_isochronous() => {
+                let completion = self.iso_completion(&urb);
+                self.complete_iso(completion);
+            }
+            urb => {
+                let completion = self.completion(urb.as_ref());
+                self.complete(completion);
+            }
+        }
     }
 
-    /// One that is accepted if anything is pending.
-    fn completion(&mut self) -> Completion {
-        let (ticket, length) = match self.pick_pending() {
+    /// One that is accepted if the URB has no packets.
+    fn completion(&mut self, urb: Option<&Urb>) -> Completion {
+        let (ticket, length) = match urb {
             Some(urb) => (urb.ticket, urb.transfer_buffer_length),
             None => (self.random.below(3) as u64, 0),
         };
@@ -32,9 +41,18 @@ impl Author {
         }
     }
 
-    /// One with a ticket, status or actual length, or several, that won't do.
     pub(super) fn complete_odd(&mut self) {
-        let mut completion = self.completion();
+        match (self.random.below(10), self.pick_pending()) {
+            (0..=4, Some(urb)) => self.complete_misfit(&urb),
+            (5..=6, _) => self.complete_iso_odd(),
+            _ => self.complete_plain_odd(),
+        }
+    }
+
+    /// One with a ticket, status or actual length, or several, that won't do.
+    fn complete_plain_odd(&mut self) {
+        let urb = self.pick_pending();
+        let mut completion = self.completion(urb.as_ref());
         let length = self.length_of(completion.ticket);
         let which = 1 + self.random.below(7);
         if which & 1 != 0 {
@@ -50,7 +68,7 @@ impl Author {
     }
 
     /// Returned or unlinked long ago, not given yet, or a seqnum.
-    fn odd_ticket(&mut self) -> u64 {
+    pub(super) fn odd_ticket(&mut self) -> u64 {
         let accepted = self.session.numbers().accepted;
         let old = self.random.below(accepted as usize + 1) as u64;
         let urb = self.pick_pending();

@@ -59,7 +59,10 @@ impl Author {
             match fault {
                 0 => submit.direction = self.random.pick(&[2, 0x100, 0x0100_0000, u32::MAX]),
                 1 => submit.transfer_buffer_length = self.random.pick(&[16_385, u32::MAX]),
-                2 => submit.number_of_packets = self.random.pick(&[1, 0xffff, 0xffff_fffe]),
+                2 => {
+                    let counts = [33, 33, 0xffff_fffe, 0xffff_fffe, 0x0100_0000, 0x2000_0000];
+                    submit.number_of_packets = self.random.pick(&counts);
+                }
                 _ => submit.seqnum = self.pick_pending().map_or(0, |urb| urb.seqnum),
             }
         }
@@ -74,7 +77,9 @@ impl Author {
         let unlink = CmdUnlink {
             seqnum: self.seqnum(),
             unlink_seqnum: self.pick_pending().map_or(0, |urb| urb.seqnum),
-            devid: self.random.pick(&[DEVID, DEVID, DEVID, DEVID, DEVID, 0, DEVID - 1]),
+            devid: self
+                .random
+                .pick(&[DEVID, DEVID, DEVID, DEVID, DEVID, 0, DEVID - 1]),
             ..CmdUnlink::default()
         };
         let mut header = unlink.header();
@@ -93,7 +98,7 @@ impl Author {
     pub(super) fn stop_within_message(&mut self) {
         let message = if self.session.is_attached() {
             let submit = self.submit();
-            self.with_data(&submit)
+            self.with_body(&submit)
         } else {
             op_req_import_of(BUSID)
         };

@@ -1,10 +1,12 @@
 //! What the client sends: submits and unlinks, mostly good ones.
 
 use super::Author;
-use crate::session::MAX_PENDING;
-use crate::tape::{Completion, DEVID};
+use crate::packets::{Packet, PacketResult};
+use crate::session::{Urb, MAX_PENDING};
+use crate::tape::{Completion, IsoCompletion, DEVID};
 use crate::wire::{
-    CmdSubmit, CmdUnlink, NOT_ISOCHRONOUS, URB_SHORT_NOT_OK, USBIP_DIR_IN, USBIP_DIR_OUT,
+    self, CmdSubmit, CmdUnlink, MAX_PACKETS, NOT_ISOCHRONOUS, URB_SHORT_NOT_OK, USBIP_DIR_IN,
+    USBIP_DIR_OUT,
 };
 
 const SHORT_LENGTHS: [u32; 8] = [0, 1, 8, 63, 64, 65, 96, 200];
@@ -15,22 +17,23 @@ const MAX_LONG_OUTS: u32 = 2;
 impl Author {
     pub(super) fn submit_good(&mut self) {
         let submit = self.submit();
-        let message = self.with_data(&submit);
+        let message = self.with_body(&submit);
         self.stream(message);
     }
 
     pub(super) fn submit(&mut self) -> CmdSubmit {
         let direction = self.random.pick(&[USBIP_DIR_IN, USBIP_DIR_OUT]);
         let setup = self.random.next_u64().to_be_bytes();
+        let transfer_buffer_length = self.length(direction);
         CmdSubmit {
             seqnum: self.seqnum(),
             devid: DEVID,
             direction,
             ep: self.random.pick(&[0, 1, 2, 14, 15]),
             transfer_flags: self.flags(),
-            transfer_buffer_length: self.length(direction),
+            transfer_buffer_length,
             start_frame: self.word(),
-            number_of_packets: self.random.pick(&[0, NOT_ISOCHRONOUS]),
+            number_of_packets: self.packets(transfer_buffer_length),
             interval: self.word(),
             setup: self.random.pick(&[[0; 8], setup]),
         }
@@ -82,9 +85,25 @@ impl Author {
         self.random.pick(&LONG_LENGTHS)
     }
 
-    pub(super) fn with_data(&mut self, submit: &CmdSubmit) -> Vec<u8> {
+    /// Long transfers have the most packets more often, so that the longest message comes.
+    fn packets(&mut self, transfer_buffer_length: u32) -> u32 {
+        let count = self.packet_count();
+        match LONG_LENGTHS.contains(&transfer_buffer_length) {
+            true => self.random.pick(&[0, NOT_ISOCHRONOUS, MAX_PACKETS]),
+            false => self.random.pick(&[0, NOT_ISOCHRONOUS, count]),
+        }
+    }
+
+    /// The whole message, its packets good if it is isochronous.
+    pub(super) fn with_body(&mut self, submit: &CmdSubmit) -> Vec<u8> {
+        let packets = self.good_packets(submit);
+        self.with_packets(submit, &packets)
+    }
+
+    pub(super) fn with_packets(&mut self, submit: &CmdSubmit, packets: &[Packet]) -> Vec<u8> {
         let data = self.out_data(submit.data_size());
-        [&submit.header()[..], &data].concat()
+        let descriptors = wire::descriptors(&self.descriptors(packets));
+        [&submit.header()[..], &data, &descriptors].concat()
     }
 
     /// Data that can be told from other data, or mistaken for messages.
@@ -112,17 +131,19 @@ impl Author {
         if which != 1 {
             submit.ep = self.random.pick(&eps);
         }
-        let message = self.with_data(&submit);
+        let message = self.with_body(&submit);
         self.stream(message);
     }
 
     /// A submit that comes in parts, with the device busy in between.
     pub(super) fn submit_between_completions(&mut self) {
         let submit = self.submit();
-        let message = self.with_data(&submit);
+        let message = self.with_body(&submit);
         let mut rest = &message[..];
         while !rest.is_empty() {
-            let ends = [rest.len(), 47, 48, 49, 1 + self.random.below(rest.len())];
+            let any = 1 + self.random.below(rest.len());
+            let data = submit.data_size().max(1);
+            let ends = [rest.len(), 47, 48, 49, data, 15, 16, any, any];
             let end = self.random.pick(&ends).min(rest.len());
             self.stream(rest[..end].to_vec());
             rest = &rest[end..];
@@ -153,9 +174,10 @@ impl Author {
         while self.session.pending().len() < MAX_PENDING {
             self.submit_good();
         }
-        match self.random.below(3) {
+        match self.random.below(4) {
             0 => self.submit_good(),
             1 => self.submit_between_completions(),
+            2 => self.submit_bad_packets(),
             _ => {
                 self.submit_good();
                 self.complete_good();
@@ -182,16 +204,41 @@ impl Author {
             devid: DEVID,
             ..CmdUnlink::default()
         };
-        self.stream(submit.header().to_vec());
+        let message = self.with_body(&submit);
+        self.stream(message.clone());
+        let urb = self.session.pending().last().cloned();
         self.stream(unlink.header().to_vec());
-        self.stream(submit.header().to_vec());
+        self.stream(message);
         for ticket in [late, late + 1] {
-            self.complete(Completion {
+            // A full list leaves another URB last, and that will do.
+            if let Some(urb) = &urb {
+                self.complete_whole(&Urb {
+                    ticket,
+                    ..urb.clone()
+                });
+            }
+        }
+    }
+
+    /// Everything that was asked for.
+    fn complete_whole(&mut self, urb: &Urb) {
+        let (ticket, status) = (urb.ticket, 0);
+        if !urb.is_isochronous() {
+            return self.complete(Completion {
                 ticket,
-                status: 0,
-                actual_length: submit.transfer_buffer_length,
+                status,
+                actual_length: urb.transfer_buffer_length,
             });
         }
+        let whole = |packet: &Packet| PacketResult {
+            actual_length: packet.length,
+            status: 0,
+        };
+        self.complete_iso(IsoCompletion {
+            ticket,
+            status,
+            results: urb.packets.iter().map(whole).collect(),
+        });
     }
 
     /// A submit whose seqnum stops being pending just before its header is in.
@@ -201,14 +248,10 @@ impl Author {
         };
         let mut submit = self.submit();
         submit.seqnum = urb.seqnum;
-        let message = self.with_data(&submit);
+        let message = self.with_body(&submit);
         let (before, after) = message.split_at(self.random.pick(&[4, 8, 47]));
         self.stream(before.to_vec());
-        self.complete(Completion {
-            ticket: urb.ticket,
-            status: 0,
-            actual_length: 0,
-        });
+        self.complete_whole(&urb);
         self.stream(after.to_vec());
     }
 }

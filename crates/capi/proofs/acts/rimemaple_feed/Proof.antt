@@ -16,7 +16,7 @@ same-length-2 c = search needs
 
 returns : tie.Need-returns
 returns c =
-    let a = c .before .before .before .before .before .before .before .before .before in
+    let a = c .before .before .before .before .before .before .before .before .before .before in
     record { answer = a .feed .result; feeds = a .feed .ensures; flat = rw (c .flat-event .ensures) }
 
 pub rimemaple-feed-spec : {M : Type 1} → statement M

@@ -6,7 +6,7 @@ numbered-requires : tie.Need-numbered-requires
 numbered-requires c κs = search needs
 
 returns : tie.Need-returns
-returns c = rw (c .before .before .numbered .ensures)
+returns c = rw (c .before .before .before .numbered .ensures)
 
 pub broken-spec : {M : Type 1} → statement M
 broken-spec = tie.close (tie.spec numbered-requires returns)

@@ -19,7 +19,7 @@ plain-plan-requires c κs = search needs
 
 returns : tie.Need-returns
 returns c =
-    let plan = c .before .before .before in
+    let plan = c in
     let change = plan .before .before in
     let urb = change .before in
     let link = urb .before in

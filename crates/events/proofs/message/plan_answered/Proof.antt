@@ -12,7 +12,9 @@ plain-plan-requires : tie.Need-plain-plan-requires
 plain-plan-requires c κs = search needs
 
 returns : tie.Need-returns
-returns c = rw (c .plain-plan .ensures, c .before .keep .ensures, c .before .before .resting-link .ensures)
+returns c =
+    let plan = c .before .before in
+    rw (plan .plain-plan .ensures, plan .before .keep .ensures, plan .before .before .resting-link .ensures)
 
 pub plan-answered-spec : {M : Type 1} → statement M
 plan-answered-spec =

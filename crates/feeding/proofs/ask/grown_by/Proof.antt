@@ -30,7 +30,7 @@ add-t8 c = search needs
 
 returns : tie.Need-returns
 returns c =
-    let w = c .before .before in
+    let w = c .before .before .before in
     let s = w .before .before .before .before in
     let a = s .args in
     let e =

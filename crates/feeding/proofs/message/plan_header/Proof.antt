@@ -26,7 +26,7 @@ returns : tie.Need-returns
 unfolding decide
 returns c =
     let v = c .before .before .before .before .before in
-    let a = v .before .before .args in
+    let a = v .before .before .before .args in
     let f =
     reading-first (first (headerTests (a .p .header) (a .link .devid) (a .look .found))) none (v .header-fault .result) (v .header-fault .ensures)
     (c .before .before .before .enum-told .given .1) in
@@ -40,7 +40,7 @@ unfolding decide
 returns-2 c =
     let g = c .before .before .reading .given in
     let v = c .before .before .before .before in
-    let a = v .before .before .args in
+    let a = v .before .before .before .args in
     let f =
     reading-first (first (headerTests (a .p .header) (a .link .devid) (a .look .found))) (some (g .0 .0)) (v .header-fault .result) (v .header-fault .ensures)
     (g .1) in
@@ -50,7 +50,7 @@ returns-3 : tie.Need-returns-3
 unfolding decide
 returns-3 c =
     let v = c .before .before .before .before .before in
-    let a = v .before .before .args in
+    let a = v .before .before .before .args in
     let f =
     reading-first (first (headerTests (a .p .header) (a .link .devid) (a .look .found))) none (v .header-fault .result) (v .header-fault .ensures)
     (c .before .before .before .enum-told .given .1) in

@@ -35,7 +35,7 @@ returns c =
     let g = c .before .before .admission .given in
     let v = c .before .before .before .before in
     let q = v .before in
-    let a = q .before .args in
+    let a = q .before .before .args in
     let e = rw (q .phase-of .ensures) at (v .feed-refusal .ensures) in
     let f =
     admission-first (first (feedTests (not (eqb (phaseOf (a .link) (a .pending)) Limits.ATTACHED)) (a .work) (a .reply))) (some (g .0 .0))
@@ -47,7 +47,7 @@ unfolding messagePlan decide
 returns-2 c =
     let v = c .before .before .before in
     let q = v .before in
-    let a = q .before .args in
+    let a = q .before .before .args in
     let e = rw (q .phase-of .ensures) at (v .feed-refusal .ensures) in
     let f =
     admission-first (first (feedTests (not (eqb (phaseOf (a .link) (a .pending)) Limits.ATTACHED)) (a .work) (a .reply))) none (v .feed-refusal .result) e

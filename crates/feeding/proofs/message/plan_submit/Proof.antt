@@ -10,7 +10,9 @@ plan-submitted-requires : tie.Need-plan-submitted-requires
 plan-submitted-requires c κs = search needs
 
 returns : tie.Need-returns
-returns c = rw (c .plan-submitted .ensures, ← c .before .before .body-len .ensures, eq-eqb _ 0 (c .before .if1 .taken))
+returns c =
+    let i = c .before .before in
+    rw (c .plan-submitted .ensures, ← i .before .body-len .ensures, eq-eqb _ 0 (i .if1 .taken))
 
 plan-body-requires : tie.Need-plan-body-requires
 plan-body-requires c κs = search needs

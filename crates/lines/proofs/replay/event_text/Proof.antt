@@ -77,31 +77,31 @@ number-line-requires-2 : tie.Need-number-line-requires-2
 number-line-requires-2 c κs = search needs
 
 returns : tie.Need-returns
-returns c = λ setup. rw (c .before .enum-told .given .1) (wider (omega arith) (c .empty .ensures))
+returns c = λ setup iso. rw (c .before .enum-told .given .1) (wider (omega arith) (c .empty .ensures))
 
 returns-2 : tie.Need-returns-2
-returns-2 c = λ setup. rw (c .before .before .enum-told2 .given .1) (wider (omega arith) (c .word-line .ensures))
+returns-2 c = λ setup iso. rw (c .before .before .enum-told2 .given .1) (wider (omega arith) (c .word-line .ensures))
 
 returns-3 : tie.Need-returns-3
-returns-3 c = λ setup. rw (c .before .before .before .event .given .1) (wider (omega arith) (c .number-line .ensures))
+returns-3 c = λ setup iso. rw (c .before .before .before .event .given .1) (wider (omega arith) (c .number-line .ensures))
 
 returns-4 : tie.Need-returns-4
-returns-4 c = λ setup. rw (c .before .before .event2 .given .1) (wider (omega arith) (c .submit-line .ensures))
+returns-4 c = λ setup iso. rw (c .before .before .event2 .given .1) (wider (omega arith) (c .submit-line .ensures))
 
 returns-5 : tie.Need-returns-5
-returns-5 c = λ setup. rw (c .before .before .before .event3 .given .1) (wider (omega arith) (c .status-line .ensures))
+returns-5 c = λ setup iso. rw (c .before .before .before .event3 .given .1) (wider (omega arith) (c .status-line .ensures))
 
 returns-6 : tie.Need-returns-6
-returns-6 c = λ setup. rw (c .before .before .before .event4 .given .1) (wider (omega arith) (c .status-line2 .ensures))
+returns-6 c = λ setup iso. rw (c .before .before .before .event4 .given .1) (wider (omega arith) (c .status-line2 .ensures))
 
 returns-7 : tie.Need-returns-7
 returns-7 c =
-    λ setup.
+    λ setup iso.
     rw (c .before .before .before .event5 .given .1)
     (rw (c .before .broken-line .ensures .text) at (c .with-dropped .ensures))
 
 returns-8 : tie.Need-returns-8
-returns-8 c = λ setup. rw (c .before .before .before .event6 .given .1) (wider (omega arith) (c .number-line2 .ensures))
+returns-8 c = λ setup iso. rw (c .before .before .before .event6 .given .1) (wider (omega arith) (c .number-line2 .ensures))
 
 pub event-text-spec : {M : Type 1} → statement M
 event-text-spec =

@@ -7,7 +7,7 @@ event-text-requires : tie.Need-event-text-requires
 event-text-requires c κs = search needs
 
 put-requires : tie.Need-put-requires
-put-requires c κs = c .before .event-text .ensures [] .size
+put-requires c κs = c .before .event-text .ensures [] [] .size
 
 same-length : tie.Need-same-length
 same-length c = search needs
@@ -16,7 +16,8 @@ returns : tie.Need-returns
 returns c =
     let k = c .before .before in
     let t = k .before .before in
-    rw (t .event-text .ensures (t .before .before .args .a .setup) .text) at (k .put .ensures)
+    let a = t .before .before .args .a in
+    rw (t .event-text .ensures (a .setup) (a .iso) .text) at (k .put .ensures)
 
 pub feed-lines-spec : {M : Type 1} → statement M
 feed-lines-spec = tie.close (tie.spec event-text-requires put-requires same-length returns)

@@ -29,10 +29,11 @@ array-copy-out-u c = search needs
 
 returns : tie.Need-returns Inv-loop μ-loop
 returns c =
-    let l = c .before .before .before .before .before in
+    let t = c .before in
+    let l = t .before .before .before .before .before in
     let a = l .before .args in
     hit seqnumOf (a .seqnum) (a .count) (a .t1) (l .loop .i) (omega arith) (omega (arith, size (l .before))) (l .loop .inv)
-    (c .if1 .taken)
+    (t .if1 .taken)
 
 add-i : tie.Need-add-i Inv-loop μ-loop
 add-i c = search needs

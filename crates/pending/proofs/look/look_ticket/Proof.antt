@@ -39,7 +39,7 @@ array-copy-out-u c = inside c
 
 returns : tie.Need-returns
 returns c =
-    let t = c .before .before in
+    let t = c .before .before .before in
     let h = t .before in
     let a = h .before .before .args in
     found-look (a .ticket) (a .count) (a .t1) (h .halve .result) (fits (h .before .before)) (searched h) (t .if1 .taken)

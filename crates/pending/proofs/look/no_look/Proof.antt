@@ -5,8 +5,11 @@ use Rattle.pending.proofs.look.no_look.Tie as tie
 no-transfer-requires : tie.Need-no-transfer-requires
 no-transfer-requires c κs = search needs
 
+no-packets-requires : tie.Need-no-packets-requires
+no-packets-requires c κs = search needs
+
 returns : tie.Need-returns
-returns c = rw (c .no-transfer .ensures)
+returns c = rw (c .before .no-transfer .ensures, c .no-packets .ensures)
 
 pub no-look-spec : {M : Type 1} → statement M
-no-look-spec = tie.close (tie.spec no-transfer-requires returns)
+no-look-spec = tie.close (tie.spec no-transfer-requires no-packets-requires returns)

@@ -31,7 +31,7 @@ returns c =
     (s .args .out .now)
     (p .put-feed .last .1 .1 .1 .1 .1 .0)
     (f .feed .ensures .said)
-    (c .is-end .ensures (f .feed .result .answer .setup) (f .feed .result .dropped))
+    (c .is-end .ensures (f .feed .result .answer .setup) (f .feed .result .answer .iso) (f .feed .result .dropped))
     (p .put-feed .ensures)
 
 pub feed-once-spec : {M : Type 1} → statement M

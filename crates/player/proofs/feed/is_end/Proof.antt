@@ -27,28 +27,28 @@ enum-told-7 : tie.Need-enum-told-7
 enum-told-7 c = search needs
 
 returns : tie.Need-returns
-returns c setup dropped = rw (c .enum-told .given .1)
+returns c setup iso dropped = rw (c .enum-told .given .1)
 
 returns-2 : tie.Need-returns-2
-returns-2 c setup dropped = rw (c .enum-told2 .given .1)
+returns-2 c setup iso dropped = rw (c .enum-told2 .given .1)
 
 returns-3 : tie.Need-returns-3
-returns-3 c setup dropped = rw (c .before .event .given .1)
+returns-3 c setup iso dropped = rw (c .before .event .given .1)
 
 returns-4 : tie.Need-returns-4
-returns-4 c setup dropped = rw (c .enum-told3 .given .1)
+returns-4 c setup iso dropped = rw (c .enum-told3 .given .1)
 
 returns-5 : tie.Need-returns-5
-returns-5 c setup dropped = rw (c .enum-told4 .given .1)
+returns-5 c setup iso dropped = rw (c .enum-told4 .given .1)
 
 returns-6 : tie.Need-returns-6
-returns-6 c setup dropped = rw (c .enum-told5 .given .1)
+returns-6 c setup iso dropped = rw (c .enum-told5 .given .1)
 
 returns-7 : tie.Need-returns-7
-returns-7 c setup dropped = rw (c .enum-told6 .given .1)
+returns-7 c setup iso dropped = rw (c .enum-told6 .given .1)
 
 returns-8 : tie.Need-returns-8
-returns-8 c setup dropped = rw (c .enum-told7 .given .1)
+returns-8 c setup iso dropped = rw (c .enum-told7 .given .1)
 
 pub is-end-spec : {M : Type 1} → statement M
 is-end-spec =

@@ -1,3 +1,5 @@
+use mathlib.Core.Path.{refl}
+use Rattle.model.specs.Acts.{plain}
 use Rattle.session.specs.Views.{viewOf}
 use Rattle.player.proofs.Acts.{completion-played}
 use borrow.Author.Needs.{needs}
@@ -31,9 +33,10 @@ returns c =
     let d = k .before .before .before .before .before in
     let m = d .before .before .before in
     let a = m .before .before .args in
-    completion-played (a .traced) (a .ticket) (a .status) (a .actual) (d .complete .result) (viewOf (a .session)) (m .device-data .result) _ (a .out .now) _
+    completion-played (a .traced) plain 0 (a .ticket) (a .status) (a .actual) (d .complete .result) (viewOf (a .session)) (m .device-data .result) _ (a .out .now) _
     (k .put-completion .result)
     (m .device-data .ensures)
+    refl
     (d .complete .ensures .said)
     (k .put-completion .ensures)
 

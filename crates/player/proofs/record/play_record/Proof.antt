@@ -1,3 +1,4 @@
+use Rattle.model.specs.Cut.{lent}
 use Rattle.player.proofs.Acts.{record-played}
 use borrow.Author.Needs.{needs}
 use Rattle.player.proofs.record.play_record.Statement.{statement}
@@ -17,6 +18,15 @@ enum-known-r-2 c = search needs
 
 play-completion-requires : tie.Need-play-completion-requires
 play-completion-requires c κs = search needs
+
+enum-known-r-3 : tie.Need-enum-known-r-3
+enum-known-r-3 c = search needs
+
+iso-results-requires : tie.Need-iso-results-requires
+iso-results-requires c κs = search needs
+
+play-iso-requires : tie.Need-play-iso-requires
+play-iso-requires c κs = search needs
 
 enum-told : tie.Need-enum-told
 enum-told c = search needs
@@ -53,6 +63,17 @@ same-length-5 c = search needs
 returns-3 : tie.Need-returns-3
 returns-3 c =
     let k = c .before .before in
+    let m = k .before .before in
+    let r = m .before .before in
+    let a = r .before .before .before .before .before .before .args in
+    record-played _ _ _ _ _ _ _ _ _ _ (r .r3 .given .1) (rw (m .iso-results .ensures .0) at (k .play-iso .ensures (lent (a .work .now) (a .reply .now))))
+
+same-length-6 : tie.Need-same-length-6
+same-length-6 c = search needs
+
+returns-4 : tie.Need-returns-4
+returns-4 c =
+    let k = c .before .before in
     record-played _ _ _ _ _ _ _ _ _ _ (k .before .before .enum-told .given .1) (k .play-close .ensures _)
 
 pub play-record-spec : {M : Type 1} → statement M
@@ -64,6 +85,9 @@ play-record-spec =
     play-stream-requires
     enum-known-r-2
     play-completion-requires
+    enum-known-r-3
+    iso-results-requires
+    play-iso-requires
     enum-told
     play-close-requires
     same-length
@@ -73,4 +97,6 @@ play-record-spec =
     same-length-4
     returns-2
     same-length-5
-    returns-3)
+    returns-3
+    same-length-6
+    returns-4)

@@ -41,13 +41,13 @@ header-put : (b : tie.After-trace-header) →
     let f = b .before .before .before .before .before in
     let n = f .complete-line .result in
     let s = start f .args in
-    Puts (completionText (s .traced) (s .ticket) (s .actual) (completionOf (s .answer)) (s .header .now)) (s .out .now)
-    (behind (lined f) n (b .trace-header .last .1 .1 .0))
+    Puts (completionText (s .traced) (s .packets) (s .ticket) (s .actual) (completionOf (s .answer)) (s .header .now)) (s .out .now)
+    (behind (lined f) n (b .trace-header .last .1 .1 .1 .0))
     (n + b .trace-header .result)
 header-put b =
     let t = b .before .before in
     let f = t .before .before .before in
-    puts-traced (line-put f) (puts-wrote _ _ _ _ (b .trace-header .ensures)) (f .complete-line .kept .1 .1 .1 .0) (b .trace-header .kept .1 .1 .0)
+    puts-traced (line-put f) (puts-wrote _ _ _ _ (b .trace-header .ensures)) (f .complete-line .kept .1 .1 .1 .0) (b .trace-header .kept .1 .1 .1 .0)
     (t .if1 .taken)
 
 add-result : tie.Need-add-result

@@ -14,7 +14,7 @@ abbrev start : tie.After-feed-lines → tie.Start
 start f = f .before .before .before .before .before
 
 abbrev event : tie.After-feed-lines → Outcome Event
-event f = let s = start f .args in eventOf (s .a .event) (s .a .setup) (s .dropped)
+event f = let s = start f .args in eventOf (s .a .event) (s .a .setup) (s .a .iso) (s .dropped)
 
 -- the buffer with the lines of a replay
 abbrev lined : tie.After-feed-lines → List ℕ

@@ -47,7 +47,7 @@ event-put : (b : tie.After-put-beside) (ts : Tickets) →
     let t = b .before .before .before .before in
     let n = t .trace-feed .result in
     let s = start t .args in
-    Puts (feedTraces (eventOf (s .a .event) (s .a .setup) ts) (s .a .consumed) (s .a .length) (s .work .now) (s .reply .now)) (s .out .now)
+    Puts (feedTraces (eventOf (s .a .event) (s .a .setup) (s .a .iso) ts) (s .a .consumed) (s .a .length) (s .work .now) (s .reply .now)) (s .out .now)
     (behind (fed t) n (b .put-beside .last .1 .1 .0))
     (n + b .put-beside .result)
 event-put b ts =

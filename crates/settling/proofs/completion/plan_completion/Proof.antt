@@ -14,56 +14,45 @@ phase-of-requires c κs = search needs
 judged-by-requires : tie.Need-judged-by-requires
 judged-by-requires c κs = search needs
 
-reply-to-requires : tie.Need-reply-to-requires
-reply-to-requires c κs = search needs
-
 completion-refusal-requires : tie.Need-completion-refusal-requires
 completion-refusal-requires c κs = search needs
 
 enum-known-admission : tie.Need-enum-known-admission
 enum-known-admission c = search needs
 
-keep-requires : tie.Need-keep-requires
-keep-requires c κs = search needs
+plan-refusal-requires : tie.Need-plan-refusal-requires
+plan-refusal-requires c κs = search needs
 
 enum-told : tie.Need-enum-told
 enum-told c = search needs
 
-returned-link-requires : tie.Need-returned-link-requires
-returned-link-requires c κs = search needs
-
-remove-requires : tie.Need-remove-requires
-remove-requires c κs = search needs
-
-wire-length-requires : tie.Need-wire-length-requires
-wire-length-requires c κs = search needs
+plan-return-requires : tie.Need-plan-return-requires
+plan-return-requires c κs = search needs
 
 returns : tie.Need-returns
 unfolding completionPlan decide
 returns c =
     let g = c .before .before .admission .given in
     let v = c .before .before .before .before in
-    let judged = v .before .before in
-    let phase = judged .before .before in
+    let judged = v .before in
+    let phase = judged .before in
     let a = phase .before .args in
     let tests = completionTests (judgedBy (phaseOf (a .link) (a .pending)) (a .look) (a .given) (a .payload) (a .header)) in
     let e = rw (judged .judged-by .ensures, phase .phase-of .ensures) at (v .completion-refusal .ensures) in
     let f = admission-first (first tests) (some (g .0 .0)) (v .completion-refusal .result) e (g .1) in
-    rw (f, c .keep .ensures, v .before .reply-to .ensures)
+    rw (f, c .plan-refusal .ensures)
 
 returns-2 : tie.Need-returns-2
 unfolding completionPlan decide
 returns-2 c =
-    let next = c .before .before in
-    let told = next .before in
-    let v = told .before .before in
-    let judged = v .before .before in
-    let phase = judged .before .before in
+    let v = c .before .before .before in
+    let judged = v .before in
+    let phase = judged .before in
     let a = phase .before .args in
     let tests = completionTests (judgedBy (phaseOf (a .link) (a .pending)) (a .look) (a .given) (a .payload) (a .header)) in
     let e = rw (judged .judged-by .ensures, phase .phase-of .ensures) at (v .completion-refusal .ensures) in
-    let f = admission-first (first tests) none (v .completion-refusal .result) e (told .enum-told .given .1) in
-    rw (f, c .wire-length .ensures, c .before .remove .ensures, next .returned-link .ensures, v .before .reply-to .ensures)
+    let f = admission-first (first tests) none (v .completion-refusal .result) e (c .before .enum-told .given .1) in
+    rw (f, c .plan-return .ensures)
 
 pub plan-completion-spec : {M : Type 1} → statement M
 plan-completion-spec =
@@ -71,13 +60,10 @@ plan-completion-spec =
     (tie.spec
     phase-of-requires
     judged-by-requires
-    reply-to-requires
     completion-refusal-requires
     enum-known-admission
-    keep-requires
+    plan-refusal-requires
     enum-told
-    returned-link-requires
-    remove-requires
-    wire-length-requires
+    plan-return-requires
     returns
     returns-2)

@@ -30,19 +30,53 @@ returns-3 c =
     let m = e .before in
     rw (← m .field16 .ensures, le-ltb _ _ (m .before .if1 .left), ne-eqb _ _ (e .if2 .left), eq-eqb _ _ (c .before .if3 .taken)) (c .completion-head .ensures)
 
+iso-head-requires : tie.Need-iso-head-requires
+iso-head-requires c κs = search needs
+
 returns-4 : tie.Need-returns-4
 unfolding headOf
 returns-4 c =
-    let e = c .before .before in
+    let d = c .before .before in
+    let e = d .before in
     let m = e .before in
-    rw (← m .field16 .ensures, le-ltb _ _ (m .before .if1 .left), ne-eqb _ _ (e .if2 .left), ne-eqb _ _ (c .before .if3 .left), eq-eqb _ _ (c .if4 .taken))
+    rw (
+      ← m .field16 .ensures,
+      le-ltb _ _ (m .before .if1 .left),
+      ne-eqb _ _ (e .if2 .left),
+      ne-eqb _ _ (d .if3 .left),
+      eq-eqb _ _ (c .before .if4 .taken),
+    )
+    (c .iso-head .ensures)
 
 returns-5 : tie.Need-returns-5
 unfolding headOf
 returns-5 c =
-    let e = c .before .before in
+    let d = c .before .before in
+    let e = d .before in
     let m = e .before in
-    rw (← m .field16 .ensures, le-ltb _ _ (m .before .if1 .left), ne-eqb _ _ (e .if2 .left), ne-eqb _ _ (c .before .if3 .left), ne-eqb _ _ (c .if4 .left))
+    rw (
+      ← m .field16 .ensures,
+      le-ltb _ _ (m .before .if1 .left),
+      ne-eqb _ _ (e .if2 .left),
+      ne-eqb _ _ (d .if3 .left),
+      ne-eqb _ _ (c .before .if4 .left),
+      eq-eqb _ _ (c .if5 .taken),
+    )
+
+returns-6 : tie.Need-returns-6
+unfolding headOf
+returns-6 c =
+    let d = c .before .before in
+    let e = d .before in
+    let m = e .before in
+    rw (
+      ← m .field16 .ensures,
+      le-ltb _ _ (m .before .if1 .left),
+      ne-eqb _ _ (e .if2 .left),
+      ne-eqb _ _ (d .if3 .left),
+      ne-eqb _ _ (c .before .if4 .left),
+      ne-eqb _ _ (c .if5 .left),
+    )
 
 pub read-head-spec : {M : Type 1} → statement M
 read-head-spec =
@@ -54,5 +88,7 @@ read-head-spec =
     returns-2
     completion-head-requires
     returns-3
+    iso-head-requires
     returns-4
-    returns-5)
+    returns-5
+    returns-6)

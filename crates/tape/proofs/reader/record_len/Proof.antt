@@ -14,6 +14,18 @@ add-result c = search needs
 enum-told : tie.Need-enum-told
 enum-told c = search needs
 
+enum-known-r-2 : tie.Need-enum-known-r-2
+enum-known-r-2 c = search needs
+
+cast-result-2 : tie.Need-cast-result-2
+cast-result-2 c = search needs
+
+mul-result : tie.Need-mul-result
+mul-result c = search needs
+
+add-result-2 : tie.Need-add-result-2
+add-result-2 c = search needs
+
 enum-told-2 : tie.Need-enum-told-2
 enum-told-2 c = search needs
 
@@ -24,7 +36,10 @@ returns-2 : tie.Need-returns-2
 returns-2 c = rw (c .enum-told .given .1)
 
 returns-3 : tie.Need-returns-3
-returns-3 c = rw (c .enum-told2 .given .1)
+returns-3 c = rw (c .before .r2 .given .1)
+
+returns-4 : tie.Need-returns-4
+returns-4 c = rw (c .enum-told2 .given .1)
 
 pub record-len-spec : {M : Type 1} → statement M
 record-len-spec =
@@ -34,7 +49,12 @@ record-len-spec =
     cast-result
     add-result
     enum-told
+    enum-known-r-2
+    cast-result-2
+    mul-result
+    add-result-2
     enum-told-2
     returns
     returns-2
-    returns-3)
+    returns-3
+    returns-4)

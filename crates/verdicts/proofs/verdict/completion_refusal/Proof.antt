@@ -35,9 +35,6 @@ returns-5 c =
       lt-ltb _ _ (c .if5 .taken),
     )
 
-short-data-requires : tie.Need-short-data-requires
-short-data-requires c κs = search needs
-
 returns-6 : tie.Need-returns-6
 returns-6 c =
     let e5 = c .before .before in
@@ -52,13 +49,16 @@ returns-6 c =
       ← p .is-positive .ensures,
       e4 .if4 .left,
       le-ltb _ _ (e5 .if5 .left),
-      ← c .before .short-data .ensures,
       c .if6 .taken,
     )
 
+short-data-requires : tie.Need-short-data-requires
+short-data-requires c κs = search needs
+
 returns-7 : tie.Need-returns-7
 returns-7 c =
-    let e5 = c .before .before in
+    let e6 = c .before .before in
+    let e5 = e6 .before .before in
     let e4 = e5 .before .before in
     let p = e4 .before in
     let e3 = p .before in
@@ -70,8 +70,29 @@ returns-7 c =
       ← p .is-positive .ensures,
       e4 .if4 .left,
       le-ltb _ _ (e5 .if5 .left),
+      e6 .if6 .left,
       ← c .before .short-data .ensures,
-      c .if6 .left,
+      c .if7 .taken,
+    )
+
+returns-8 : tie.Need-returns-8
+returns-8 c =
+    let e6 = c .before .before in
+    let e5 = e6 .before .before in
+    let e4 = e5 .before .before in
+    let p = e4 .before in
+    let e3 = p .before in
+    let e2 = e3 .before .before in
+    rw (
+      e2 .before .before .if1 .left,
+      le-ltb _ _ (e2 .if2 .left),
+      e3 .if3 .left,
+      ← p .is-positive .ensures,
+      e4 .if4 .left,
+      le-ltb _ _ (e5 .if5 .left),
+      e6 .if6 .left,
+      ← c .before .short-data .ensures,
+      c .if7 .left,
     )
 
 pub completion-refusal-spec : {M : Type 1} → statement M
@@ -84,6 +105,7 @@ completion-refusal-spec =
     is-positive-requires
     returns-4
     returns-5
-    short-data-requires
     returns-6
-    returns-7)
+    short-data-requires
+    returns-7
+    returns-8)

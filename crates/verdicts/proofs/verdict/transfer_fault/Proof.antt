@@ -15,8 +15,8 @@ faulty-requires-2 c κs = search needs
 returns-2 : tie.Need-returns-2
 returns-2 c = rw (c .faulty2 .ensures, le-ltb _ _ (c .before .before .before .if1 .left), lt-ltb _ _ (c .before .if2 .taken))
 
-non-isochronous-requires : tie.Need-non-isochronous-requires
-non-isochronous-requires c κs = search needs
+good-count-requires : tie.Need-good-count-requires
+good-count-requires c κs = search needs
 
 faulty-requires-3 : tie.Need-faulty-requires-3
 faulty-requires-3 c κs = search needs
@@ -25,13 +25,13 @@ returns-3 : tie.Need-returns-3
 returns-3 c =
     let p = c .before .before in
     let e2 = p .before in
-    rw (c .faulty3 .ensures, le-ltb _ _ (e2 .before .before .if1 .left), le-ltb _ _ (e2 .if2 .left), ← p .non-isochronous .ensures, c .before .if3 .taken)
+    rw (c .faulty3 .ensures, le-ltb _ _ (e2 .before .before .if1 .left), le-ltb _ _ (e2 .if2 .left), ← p .good-count .ensures, c .before .if3 .taken)
 
 returns-4 : tie.Need-returns-4
 returns-4 c =
     let p = c .before in
     let e2 = p .before in
-    rw (le-ltb _ _ (e2 .before .before .if1 .left), le-ltb _ _ (e2 .if2 .left), ← p .non-isochronous .ensures, c .if3 .left)
+    rw (le-ltb _ _ (e2 .before .before .if1 .left), le-ltb _ _ (e2 .if2 .left), ← p .good-count .ensures, c .if3 .left)
 
 pub transfer-fault-spec : {M : Type 1} → statement M
 transfer-fault-spec =
@@ -41,7 +41,7 @@ transfer-fault-spec =
     returns
     faulty-requires-2
     returns-2
-    non-isochronous-requires
+    good-count-requires
     faulty-requires-3
     returns-3
     returns-4)

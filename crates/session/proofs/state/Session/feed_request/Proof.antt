@@ -12,7 +12,7 @@ use Rattle.session.proofs.state.Session.feed_request.Statement.{stateme
 use Rattle.session.proofs.state.Session.feed_request.Tie as tie
 
 arrays : (c : tie.Start) → Arrays (c .args .self .link) (c .args .self .pending)
-arrays c = (search (unmapped, needs), search (unmapped, needs), search (unmapped, needs))
+arrays c = (search (unmapped, needs), search (unmapped, needs), search (unmapped, needs), search (unmapped, needs))
 
 devices : (c : tie.Start) → length (c .args .self .table .devices) ≡ MAX-DEVICES
 devices c = search (unmapped, needs)
@@ -37,8 +37,8 @@ changed-requires c κs = search needs
 tickets-requires : tie.Need-tickets-requires
 tickets-requires c κs = search needs
 
-copy-data-requires : tie.Need-copy-data-requires
-copy-data-requires c κs = let k = composed (c .before .before .before .before .before .before) 0 in (k .inside, k .fits)
+copy-body-requires : tie.Need-copy-body-requires
+copy-body-requires c κs = let k = composed (c .before .before .before .before .before .before) 0 in (k .inside, k .fits)
 
 write-request-reply-requires : tie.Need-write-request-reply-requires
 write-request-reply-requires c κs = search needs
@@ -64,8 +64,8 @@ returns c time =
     let r = p .plan-request .result in
     rw (c .answer-of .ensures)
     (feeds-by (a .self) (a .piece .now) (lent (a .work .now) (a .reply .now)) (lent _ _) time (r .plan) (requestBytes (a .self .table) (r .reply))
-    (l .changed .result) (t .tickets .result) (w .write-request-reply .result) (arrays s .1) (composed p time)
-    (l .changed .ensures) (t .tickets .ensures) (d .copy-data .ensures)
+    (l .changed .result) (t .tickets .result) (w .write-request-reply .result) (arrays s .2) (composed p time)
+    (l .changed .ensures) (t .tickets .ensures) (d .copy-body .ensures)
     (w .write-request-reply .ensures .0) (w .write-request-reply .ensures .1))
 
 pub feed-request-spec : {M : Type 1} → statement M
@@ -75,7 +75,7 @@ feed-request-spec =
     plan-request-requires
     changed-requires
     tickets-requires
-    copy-data-requires
+    copy-body-requires
     write-request-reply-requires
     answer-of-requires
     same-length

@@ -5,8 +5,8 @@ use Prim.Native.Nat.{_-_}
 use native.Mathlib.Omega.{arith}
 use mathlib.Core.Path.{_≡_, refl}
 use borrow.Author.Needs.{needs}
-use Rattle.session.proofs.carry.copy_data.Statement.{statement}
-use Rattle.session.proofs.carry.copy_data.Tie as tie
+use Rattle.session.proofs.carry.copy_body.Statement.{statement}
+use Rattle.session.proofs.carry.copy_body.Tie as tie
 
 sub-write : tie.Need-sub-write
 sub-write c = search needs
@@ -49,8 +49,8 @@ returns-2 c =
     let z : a .to - a .from ≡ 0 = omega (arith, c .if1 .left) in
     rw z
 
-pub copy-data-spec : {M : Type 1} → statement M
-copy-data-spec =
+pub copy-body-spec : {M : Type 1} → statement M
+copy-body-spec =
     tie.close
     (tie.spec
     sub-write

@@ -1,0 +1,2 @@
+-- The laws of a reply's bytes.
+pub mod Laws
