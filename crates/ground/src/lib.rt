@@ -1,2 +1,4 @@
 // What is about no protocol: the writing of bytes into a buffer, and in specs/ and proofs/ ordered tables of tests, and laws of lists.
+#![tactic(auto)]
+
 pub mod writing;

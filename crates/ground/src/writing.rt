@@ -8,5 +8,7 @@ pub fn write(out: &mut [u8], bytes: &[u8]) -> usize
     if out.len() < bytes.len() {
         return 0;
     }
-    bytes::copy(bytes, out)
+    let n = bytes.len();
+    out[0..n].copy_from_slice(bytes);
+    n
 }

@@ -1,13 +1,15 @@
 // Finding a number among numbers that rise, by halving. A look is at one place, the middle of the window where the number can still
 // stand, and takes the number that stands there alone: so a search over records, wherever they are kept, reads one field of one record
 // for each look. What it finds, and within how many looks, stands in specs/.
+#![tactic(auto)]
+
 ghost use Rattle.std.specs.Prelude.{◌≡◌, ◌&&◌, ltb};
 ghost use Rattle.halving.specs.Halving.{binary_digits, all_places, middle_of, unsettled, looked};
 
 // A search: the window is from place low up to place high, and not with it. An empty one is settled: the number was found, and stands
 // at low, or it stands nowhere.
 #[repr(C)]
-#[derive(Drop)]
+#[derive(Clone, Copy)]
 pub struct Search {
     pub low: usize,
     pub high: usize,
@@ -60,6 +62,7 @@ pub fn goes_on(s: Search, looks: usize) -> bool
 
 // A look, in a search for a number, at the middle, where another was seen: the window is what is behind the middle or what is before
 // it, or the number is found. A settled search stays as it is.
+#[tactic(auto, unfolding(crate::specs::Halving::looked))]
 pub fn look(s: Search, number: u64, seen: u64) -> Search
     ensures { result ≡ looked number seen s }
 {

@@ -1,4 +1,6 @@
 // Every limit, phase and number of the engine, as in specs/Limits.antt.
+#![tactic(auto)]
+
 pub const MAX_DEVICES: usize = 16;
 
 pub const MAX_INTERFACES: usize = 16;
