@@ -1,4 +1,6 @@
 // The descriptors of a reply. What each is stands in specs/.
+#![tactic(auto)]
+
 ghost use Rattle.std.specs.Prelude.{◌≡◌, ◌≤◌, take, replicate};
 ghost use Rattle.ground.specs.Writing.{Wrote, over};
 ghost use Rattle.limits.specs.Limits.{MAX-PACKETS, DESCRIPTORS-LEN};

@@ -10,5 +10,5 @@ pub(crate) fn copy_part(head: [u8; HEADER_LEN], at: usize, out: &mut [u8])
     ensures { out.new ≡ take (length out.old) (drop at head) }
 {
     let end = at + out.len();
-    bytes::copy(&head[at..end], out);
+    out.copy_from_slice(&head[at..end]);
 }

@@ -11,7 +11,7 @@ use wire::number::{bytes2, bytes4};
 
 // The fields of a USBIP_RET_SUBMIT that aren't 0: actual is actual_length, start start_frame, packets number_of_packets, errors
 // error_count.
-#[derive(Drop)]
+#[derive(Clone, Copy)]
 pub struct RetSubmit {
     pub seqnum: u32,
     pub status: u32,
@@ -22,7 +22,7 @@ pub struct RetSubmit {
 }
 
 // The fields of a USBIP_RET_UNLINK that aren't 0.
-#[derive(Drop)]
+#[derive(Clone, Copy)]
 pub struct RetUnlink {
     pub seqnum: u32,
     pub status: u32,

@@ -10,7 +10,7 @@ use wire::codes::{DESCRIPTOR_LEN, PACKET_LENGTH_AT, PACKET_OFFSET_AT};
 use wire::number::be4;
 
 #[repr(C)]
-#[derive(Drop)]
+#[derive(Clone, Copy)]
 pub struct Packet {
     pub offset: u32,
     pub length: u32,

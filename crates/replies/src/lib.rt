@@ -1,4 +1,6 @@
 // A USBIP_RET_SUBMIT with the descriptors behind its 48 bytes: the one writer for a completion and for a submit that is refused.
+#![tactic(auto)]
+
 ghost use Rattle.std.specs.Prelude.{◌≤◌, take};
 ghost use Rattle.ground.specs.Writing.{Wrote};
 ghost use Rattle.limits.specs.Limits.{MAX-PACKETS};

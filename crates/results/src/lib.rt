@@ -1,4 +1,6 @@
 // What the device side says of an isochronous URB's packets, judged and counted. What each is stands in specs/.
+#![tactic(auto)]
+
 ghost use Rattle.std.specs.Prelude.{◌≡◌, cond, ◌^◌, ◌≤◌, ◌<◌, eqb, take, replicate};
 ghost use Rattle.limits.specs.Limits.{MAX-PACKETS};
 ghost use Rattle.results.specs.Results.{packet_result, no_results, results_of, sum, errors, all_within, results_fit};
@@ -8,7 +10,7 @@ use packets::packet::Packet;
 
 // A packet's actual length and status.
 #[repr(C)]
-#[derive(Drop)]
+#[derive(Clone, Copy)]
 pub struct PacketResult {
     pub actual: u32,
     pub status: u32,
@@ -16,7 +18,7 @@ pub struct PacketResult {
 
 // The first count of the list. A count above MAX_PACKETS fits no URB.
 #[repr(C)]
-#[derive(Drop)]
+#[derive(Clone, Copy)]
 pub struct Results {
     pub list: [PacketResult; MAX_PACKETS],
     pub count: usize,
