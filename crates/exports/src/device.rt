@@ -3,7 +3,7 @@ use limits::{MAX_DEVICES, MAX_INTERFACES, PATH_LEN};
 use wire::codes::BUSID_LEN;
 
 #[repr(C)]
-#[derive(Drop)]
+#[derive(Clone, Copy)]
 pub struct Interface {
     pub bInterfaceClass: u8,
     pub bInterfaceSubClass: u8,
@@ -12,7 +12,7 @@ pub struct Interface {
 
 // A device under its USB descriptors' names. Of its interfaces the first bNumInterfaces count.
 #[repr(C)]
-#[derive(Drop)]
+#[derive(Clone, Copy)]
 pub struct Device {
     pub path: [u8; PATH_LEN],
     pub busid: [u8; BUSID_LEN],
@@ -33,7 +33,7 @@ pub struct Device {
 
 // The export table: its first count devices. A count above MAX_DEVICES breaks the table's rules.
 #[repr(C)]
-#[derive(Drop)]
+#[derive(Clone, Copy)]
 pub struct Table {
     pub devices: [Device; MAX_DEVICES],
     pub count: usize,

@@ -36,6 +36,7 @@ fn zeros_from(bytes: &[u8], at: usize) -> bool
 }
 
 // The rule for a path and for a busid.
+#[tactic(auto, unfolding(crate::specs::Rules::text))]
 fn is_text(bytes: &[u8]) -> bool
     ensures { result ≡ text bytes.now }
 {
@@ -60,6 +61,7 @@ fn in_range(low: u32, high: u32, x: u32) -> bool
 }
 
 // Whether a device keeps every rule for one.
+#[tactic(auto, unfolding(crate::specs::Rules::good_device))]
 pub fn good_device(d: Device) -> bool
     ensures { result ≡ good_device d }
 {

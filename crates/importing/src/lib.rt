@@ -1,4 +1,6 @@
 // The reply to an import request. What it is stands in specs/.
+#![tactic(auto)]
+
 ghost use Rattle.std.specs.Prelude.{◌≡◌, ◌+◌, length};
 ghost use Rattle.wire.specs.Codes.{OP-LEN};
 ghost use Rattle.records.specs.Records.{DEVICE-LEN};
@@ -26,6 +28,7 @@ pub fn import_reply(d: Device, reply: &mut [u8]) -> usize
 }
 
 // Writes the reply to an import that no device has the busid of, and answers how many bytes it wrote.
+#[tactic(auto, unfolding(crate::specs::Imports::import_refusal))]
 pub fn refuse_import(reply: &mut [u8]) -> usize
     ensures { Wrote import_refusal reply.old reply.new result }
 {

@@ -1,4 +1,6 @@
 // The reply to a list request. What it is stands in specs/.
+#![tactic(auto)]
+
 mod interfaces;
 
 ghost use Rattle.std.specs.Prelude.{◌≡◌, cond, ◌++◌, ◌+◌, ◌≤◌, length, take};

@@ -1,4 +1,6 @@
 // The look-up of a device by its busid. What it is stands in specs/.
+#![tactic(auto)]
+
 ghost use Rattle.std.specs.Prelude.{◌<◌, ◌≡◌, take};
 ghost use Rattle.limits.specs.Limits.{MAX-DEVICES};
 ghost use Rattle.lookup.specs.Lookup.{find_busid, find_in, place_in, device_in, devid_in};
@@ -8,7 +10,7 @@ use limits::MAX_DEVICES;
 use wire::codes::BUSID_LEN;
 
 // Where a device stands in a table, if it does.
-#[derive(Drop)]
+#[derive(Clone, Copy)]
 pub enum Found {
     At(usize),
     Nothing,

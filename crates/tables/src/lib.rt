@@ -1,4 +1,6 @@
 // The export table as a whole: whether it keeps the rules. What they are stands in specs/.
+#![tactic(auto)]
+
 ghost use Rattle.std.specs.Prelude.{◌≡◌, ◌≤◌, take, drop};
 ghost use Rattle.limits.specs.Limits.{MAX-DEVICES};
 ghost use Rattle.exports.specs.Rules.{good_device, apart};
@@ -56,6 +58,7 @@ fn all_distinct(devices: [Device; MAX_DEVICES], n: usize) -> bool
 }
 
 // Whether the table keeps every rule.
+#[tactic(auto, unfolding(crate::specs::Tables::good_table))]
 pub fn is_good(table: Table) -> bool
     ensures { result ≡ good_table table }
 {
