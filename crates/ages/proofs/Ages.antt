@@ -63,9 +63,12 @@ module _ (time limit : ℕ) where
       abbrev u : Urb
       u = get_or us k no_urb
 
+      more : (c : Bool) → is_stale time limit u ≡ c → stale (take (k + 1) us) ≡ stale (take k us) ++ cond c (u ∷ []) []
+      more c e = stale_more us k l c e
+
       pub listed-one : k < MAX-PENDING → is_stale time limit u ≡ true → Listed us (k + 1) (set out n (ticket_of u)) (n + 1)
       listed-one f e =
-          let m = stale_more us k l true e in
+          let m = more true e in
           let size : length (tickets (stale (take k us))) ≡ n = rw (length-map (stale (take k us)) ticket_of, h.count) in
           record {
             count = rw (m, length-append, h.count);
@@ -75,7 +78,7 @@ module _ (time limit : ℕ) where
 
       pub listed-none : is_stale time limit u ≡ false → Listed us (k + 1) out n
       listed-none e =
-          let m = stale_more us k l false e ∙ append-nil (stale (take k us)) in
+          let m = more false e ∙ append-nil (stale (take k us)) in
           record { count = rw m h.count; places = rw m h.places }
 
     pub listed-end : ◌≡◌ {A = Tickets} (record { tickets = out; count = n }) (listing (stale (take k us)))

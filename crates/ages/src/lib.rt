@@ -1,5 +1,7 @@
 // The ages of pending URBs on a clock of 32 bits that wraps, and the tickets of those that are stale. What each function gives stands in
 // specs/.
+#![tactic(auto)]
+
 ghost use Rattle.std.specs.Prelude.{◌≡◌, ◌≤◌, take, nat_le};
 ghost use Rattle.limits.specs.Limits.{MAX-PENDING};
 ghost use Rattle.pending.specs.Pending.{list_of, listing};

@@ -11,7 +11,7 @@ use limits::MAX_PENDING;
 // A change of the list: the URBs behind place `from`, up to place `last`, move down by one; then a URB is set at a place, where
 // there is such a place; then the first `dropped` places are blank; and the list has `count` URBs.
 #[repr(C)]
-#[derive(Drop)]
+#[derive(Clone, Copy)]
 pub struct Change {
     pub from: usize,
     pub last: usize,

@@ -2,7 +2,7 @@
 
 // How many URBs were ever accepted, and what became of those that are no longer pending.
 #[repr(C)]
-#[derive(Drop)]
+#[derive(Clone, Copy)]
 pub struct Counts {
     pub accepted: u64,
     pub returned: u64,
@@ -11,7 +11,7 @@ pub struct Counts {
 }
 
 // How many URBs were accepted, are pending, were returned, unlinked and dropped.
-#[derive(Drop)]
+#[derive(Clone, Copy)]
 pub struct Numbers {
     pub accepted: u64,
     pub pending: u64,

@@ -8,7 +8,7 @@ use limits::MAX_PENDING;
 
 // The first count URBs are the list.
 #[repr(C)]
-#[derive(Drop)]
+#[derive(Clone, Copy)]
 pub struct Pending {
     pub urbs: [Urb; MAX_PENDING],
     pub count: usize,
@@ -16,7 +16,7 @@ pub struct Pending {
 
 // The tickets of a list, and zeros behind them.
 #[repr(C)]
-#[derive(Drop)]
+#[derive(Clone, Copy)]
 pub struct Tickets {
     pub tickets: [u64; MAX_PENDING],
     pub count: usize,

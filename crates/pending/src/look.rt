@@ -14,7 +14,7 @@ use messages::message::Transfer;
 use packets::packet::{Packet, no_packets};
 
 // What is looked up: nothing, the URB with a seqnum, the URB with a ticket.
-#[derive(Drop)]
+#[derive(Clone, Copy)]
 pub enum Key {
     Nothing,
     Seqnum(u32),
@@ -23,7 +23,7 @@ pub enum Key {
 
 // The URB that has the key: whether there is one, its place, its ticket, its transfer and its packets; where there is none, the place
 // is MAX_PENDING and the numbers are 0.
-#[derive(Drop)]
+#[derive(Clone, Copy)]
 pub struct Look {
     pub found: bool,
     pub place: usize,

@@ -11,7 +11,7 @@ use wire::codes::SETUP_LEN;
 // time, in milliseconds that wrap, given with the feed that accepted it. The packets are those of an isochronous submit, as they came, and
 // blank ones behind them.
 #[repr(C)]
-#[derive(Drop)]
+#[derive(Clone, Copy)]
 pub struct Urb {
     pub ticket: u64,
     pub transfer: Transfer,

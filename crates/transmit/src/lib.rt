@@ -1,4 +1,6 @@
 // Sending a reply without copying it: which part of the header, of the device's data or of the descriptors goes out next.
+#![tactic(auto)]
+
 ghost use Rattle.std.specs.Prelude.{◌≡◌, ◌+◌, ltb, take, drop};
 ghost use Rattle.wire.specs.Codes.{HEADER-LEN};
 ghost use Rattle.transmit.specs.Part.{behind, part_of, wire_length};

@@ -22,7 +22,7 @@ use wire::codes::{
 use wire::status::{MINUS_EINVAL, MINUS_ENODEV, MINUS_ENOMEM, MINUS_EREMOTEIO, is_positive};
 
 // An act is admitted, or refused by number.
-#[derive(Drop)]
+#[derive(Clone, Copy)]
 pub enum Admission {
     Admitted,
     Refused(u32),
@@ -31,21 +31,21 @@ pub enum Admission {
 // A fault of the stream: its number, 10 to 18, and at which byte of its request or message it stands. Only the reader of a field
 // makes one.
 #[repr(C)]
-#[derive(Drop)]
+#[derive(Clone, Copy)]
 pub struct Fault {
     pub number: u32,
     pub at: usize,
 }
 
 // What the reader of a field answers.
-#[derive(Drop)]
+#[derive(Clone, Copy)]
 pub enum Reading {
     Sound,
     Faulty(Fault),
 }
 
 // A whole submit is accepted, or answered with a status, by its bits.
-#[derive(Drop)]
+#[derive(Clone, Copy)]
 pub enum Acceptance {
     Accepted,
     Answered(u32),
@@ -200,7 +200,7 @@ pub fn submit_status(h: Header, devid: u64, bad: bool, pending: usize, accepted:
 
 // What a completion is judged by: the session, the buffers' lengths (payload: the device data's), what it says, the length and
 // direction of the URB that was found under its ticket, and whether the completion's kind and packets fit that URB's.
-#[derive(Drop)]
+#[derive(Clone, Copy)]
 pub struct Completing {
     pub closed: bool,
     pub header: usize,
