@@ -10,7 +10,7 @@ use wire::codes::HEADER_LEN;
 // The message in progress: the first filled bytes of its header; or, where they are all there, the header as read, how many bytes of
 // its body came, and those of them that are descriptors' (its own copy: the work buffer is the caller's). What isn't in use is 0.
 #[repr(C)]
-#[derive(Drop)]
+#[derive(Clone, Copy)]
 pub struct Progress {
     pub head: [u8; HEADER_LEN],
     pub filled: usize,
@@ -22,7 +22,7 @@ pub struct Progress {
 // The link to the client: WAITING, ATTACHED or CLOSED; the devid of the device that is attached (64 bits, so that none
 // overflows it); the message in progress; the counts.
 #[repr(C)]
-#[derive(Drop)]
+#[derive(Clone, Copy)]
 pub struct Link {
     pub phase: u8,
     pub devid: u64,

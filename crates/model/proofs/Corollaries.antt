@@ -614,10 +614,11 @@ ready_feed s b lent p time a g h P f =
     let r = feed_of s lent p time in
     let w : eqb s.link.phase Limits.WAITING ≡ false = ap (λ p. eqb p Limits.WAITING) g.attached in
     let k : MessageReaches b.part p r.event r.consumed = rw w at (reaches s b lent p time h) in
+    let k' : MessageReaches [] p r.event r.consumed = rw g.empty at k in
     ⊎_elim (λ i. not_clear (feed_rows_by b lent) i.0 (feed_clear s b lent a g) (h.refuses i.0 i.1).0)
     (λ i.
     let e = i.0 in
-    rw i.1 (f e r.consumed (rw (i.1, g.empty) at k) (rw (w, g.empty) at (h.right e i.1).1)))
+    rw i.1 (f e r.consumed (rw i.1 at k') (rw (w, g.empty) at (h.right e i.1).1)))
     (refused_or r.event)
 
 pub accept_iff : AcceptIff
