@@ -6,14 +6,14 @@ use packets::packet::Packet;
 use verdicts::verdict::Fault;
 use wire::codes::SETUP_LEN;
 
-#[derive(Drop)]
+#[derive(Clone, Copy)]
 pub enum Opening {
     Ready,
     Refused(u32),
 }
 
 // The ticket that an unlink removed, if it did.
-#[derive(Drop)]
+#[derive(Clone, Copy)]
 pub enum Removed {
     Ticket(u64),
     Nothing,
@@ -23,7 +23,7 @@ pub enum Removed {
 // its transfer (the setup bytes and the packets stand beside); an answer to a refused submit its seqnum and status; an unlink its own seqnum, its
 // status and the ticket removed. A break is the rules' word for a fault in the stream, which ends the session. A refusal has its
 // number.
-#[derive(Drop)]
+#[derive(Clone, Copy)]
 pub enum Event {
     Hungry,
     List,
@@ -36,7 +36,7 @@ pub enum Event {
 }
 
 // A feed's answer: the event, the bytes consumed of the piece, the length of the reply; an accepted submit's setup bytes and packets.
-#[derive(Drop)]
+#[derive(Clone, Copy)]
 pub struct Answer {
     pub event: Event,
     pub consumed: usize,
@@ -46,20 +46,20 @@ pub struct Answer {
 }
 
 // A completion is accepted, with the length of the reply on the wire and the status sent, or refused.
-#[derive(Drop)]
+#[derive(Clone, Copy)]
 pub enum Completion {
     Return(u64, u32),
     Refused(u32),
 }
 
-#[derive(Drop)]
+#[derive(Clone, Copy)]
 pub enum Closing {
     End,
     Refused(u32),
 }
 
 // An inquiry lists the stale tickets beside it, or is refused.
-#[derive(Drop)]
+#[derive(Clone, Copy)]
 pub enum Inquiry {
     Listed,
     Refused(u32),

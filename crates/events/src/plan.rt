@@ -10,7 +10,7 @@ use packets::packet::{Packet, no_packets};
 use pending::change::Change;
 
 // The reply to a message: none, a RET_SUBMIT, a RET_UNLINK.
-#[derive(Drop)]
+#[derive(Clone, Copy)]
 pub enum Reply {
     Silent,
     Submit(RetSubmit),
@@ -20,7 +20,7 @@ pub enum Reply {
 // The next link, the change of the pending list, the event and the bytes consumed, the reply and the packets that it sends back; the
 // bytes of the piece from `from` up to `to` go to place `body` of the work buffer. What stands beside the event, setup bytes and packets, is
 // that of the URB that the change sets.
-#[derive(Drop)]
+#[derive(Clone, Copy)]
 pub struct Plan {
     pub link: Link,
     pub change: Change,
@@ -34,7 +34,7 @@ pub struct Plan {
 }
 
 // The reply to a request: none; the table's list; the import of the device at a place of the table, or of none.
-#[derive(Drop)]
+#[derive(Clone, Copy)]
 pub enum RequestReply {
     Silent,
     List,
@@ -43,7 +43,7 @@ pub enum RequestReply {
 }
 
 // A plan that copies nothing and has no reply of its own, with the reply to a request.
-#[derive(Drop)]
+#[derive(Clone, Copy)]
 pub struct RequestPlan {
     pub plan: Plan,
     pub reply: RequestReply,

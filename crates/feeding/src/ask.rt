@@ -12,7 +12,7 @@ use wire::codes::{CMD_SUBMIT, CMD_UNLINK, HEADER_LEN};
 
 // The message in progress with the bytes of a piece that are its header's; how many they are; whether they made the header whole;
 // and what must be looked up then.
-#[derive(Drop)]
+#[derive(Clone, Copy)]
 pub struct Asked {
     pub progress: Progress,
     pub consumed: usize,

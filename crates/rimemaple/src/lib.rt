@@ -1,5 +1,6 @@
 // The front door: all that a caller of the engine needs, by one crate's name. It is a list, and so has no specs of its own: what each
 // promises stands where it is declared.
+#![tactic(auto)]
 
 // A session, and what its acts hand back and answer.
 pub use events::answer::{Answer, Closing, Completion, Event, Inquiry, Opening, Removed};

@@ -4,33 +4,33 @@ use crate::state::Session;
 use events::answer::{Answer, Closing, Completion, Inquiry, Opening};
 use pending::list::Tickets;
 
-#[derive(Drop)]
+#[derive(Clone, Copy)]
 pub struct Opened {
     pub session: Session,
     pub answer: Opening,
 }
 
-#[derive(Drop)]
+#[derive(Clone, Copy)]
 pub struct Fed {
     pub session: Session,
     pub answer: Answer,
     pub dropped: Tickets,
 }
 
-#[derive(Drop)]
+#[derive(Clone, Copy)]
 pub struct Completed {
     pub session: Session,
     pub answer: Completion,
 }
 
-#[derive(Drop)]
+#[derive(Clone, Copy)]
 pub struct Closed {
     pub session: Session,
     pub answer: Closing,
     pub dropped: Tickets,
 }
 
-#[derive(Drop)]
+#[derive(Clone, Copy)]
 pub struct Inquired {
     pub answer: Inquiry,
     pub stale: Tickets,

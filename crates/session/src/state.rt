@@ -4,7 +4,7 @@ use links::link::Link;
 use pending::list::Pending;
 
 #[repr(C)]
-#[derive(Drop)]
+#[derive(Clone, Copy)]
 pub struct Session {
     pub(crate) table: Table,
     pub(crate) link: Link,

@@ -9,7 +9,7 @@ use links::link::{Link, ended_link};
 use pending::change::Change;
 
 // What a close will do: the next link, the change of the list, the answer.
-#[derive(Drop)]
+#[derive(Clone, Copy)]
 pub struct ClosePlan {
     pub link: Link,
     pub change: Change,

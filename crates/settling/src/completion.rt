@@ -21,7 +21,7 @@ use verdicts::verdict::{Admission, Completing, completion_refusal, status_sent};
 
 // What the device side says of a ticket: a status and an actual length; and whether that is all, as of a URB that isn't isochronous, or
 // there is a result for each packet, too.
-#[derive(Drop)]
+#[derive(Clone, Copy)]
 pub struct Given {
     pub status: u32,
     pub actual: u32,
@@ -31,7 +31,7 @@ pub struct Given {
 
 // What a completion will do: the next link and the change of the list; the answer; and if it is good, the header and the packets of its
 // descriptors.
-#[derive(Drop)]
+#[derive(Clone, Copy)]
 pub struct CompletionPlan {
     pub link: Link,
     pub change: Change,
