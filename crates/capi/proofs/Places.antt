@@ -6,7 +6,7 @@ use mathlib.Core.Logic.{inl, inr}
 use mathlib.Core.Path.{◌≡◌, refl, sym, ap, ◌∙◌}
 use lib.ListN.{length, take, drop, length-take}
 use lib.Seq.{take-take, take-nil, drop-drop}
-use borrow.Author.Tests.{eq-eqb, ne_eqb, lt-ltb, le-ltb}
+use borrow.Author.Tests.{ne_eqb, lt-ltb, le-ltb}
 use Rattle.wire.specs.Codes.{HEADER-LEN}
 use Rattle.transmit.specs.Part.{behind, part_of}
 use Rattle.transmit.proofs.Parts.{part_of_header, part_of_data, part_of_descriptors, empty_iff}

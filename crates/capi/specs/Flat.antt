@@ -1,5 +1,5 @@
 -- An answer as numbers, a row for each of its cases.
-use Rattle.std.specs.Prelude.{ℕ, ◌-◌, cond, List, eqb, ltb, length, take, drop}
+use Rattle.std.specs.Prelude.{ℕ, ◌-◌, cond, List, eqb, ltb, take, drop}
 use Rattle.wire.specs.Codes.{HEADER-LEN}
 use Rattle.limits.specs.Limits
 use Rattle.messages.specs.declared.message.Transfer.{Transfer}

@@ -11,7 +11,7 @@ use limits::{
 pub const FACE_VERSION: u32 = 6;
 
 #[repr(C)]
-#[derive(Drop)]
+#[derive(Clone, Copy)]
 pub struct FlatLimits {
     pub devices: usize,
     pub interfaces: usize,

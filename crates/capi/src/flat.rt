@@ -36,7 +36,7 @@ pub const REFUSED: u32 = 7;
 // the byte of its message at which a break's fault stands; the ticket that an unlink removed, 0 if none; an accepted submit's ticket,
 // transfer, setup bytes, arrival and packets. What an event doesn't have is 0.
 #[repr(C)]
-#[derive(Drop)]
+#[derive(Clone, Copy)]
 pub struct FlatEvent {
     pub kind: u32,
     pub number: u32,
@@ -53,14 +53,14 @@ pub struct FlatEvent {
 
 // What the acts hand back: the next session; a refusal's number, or 0; and what stands beside.
 #[repr(C)]
-#[derive(Drop)]
+#[derive(Clone, Copy)]
 pub struct FlatOpened {
     pub session: Session,
     pub refusal: u32,
 }
 
 #[repr(C)]
-#[derive(Drop)]
+#[derive(Clone, Copy)]
 pub struct FlatFed {
     pub session: Session,
     pub event: FlatEvent,
@@ -70,7 +70,7 @@ pub struct FlatFed {
 }
 
 #[repr(C)]
-#[derive(Drop)]
+#[derive(Clone, Copy)]
 pub struct FlatCompleted {
     pub session: Session,
     pub refusal: u32,
@@ -79,7 +79,7 @@ pub struct FlatCompleted {
 }
 
 #[repr(C)]
-#[derive(Drop)]
+#[derive(Clone, Copy)]
 pub struct FlatClosed {
     pub session: Session,
     pub refusal: u32,
@@ -88,14 +88,14 @@ pub struct FlatClosed {
 
 // The stale tickets: an inquiry hands back no session.
 #[repr(C)]
-#[derive(Drop)]
+#[derive(Clone, Copy)]
 pub struct FlatInquired {
     pub refusal: u32,
     pub stale: Tickets,
 }
 
 #[repr(C)]
-#[derive(Drop)]
+#[derive(Clone, Copy)]
 pub struct FlatNumbers {
     pub accepted: u64,
     pub pending: u64,

@@ -12,7 +12,7 @@ pub const OF_PAYLOAD: u32 = 1;
 
 // A part: so many bytes at a place of the header or of the payload.
 #[repr(C)]
-#[derive(Drop)]
+#[derive(Clone, Copy)]
 pub struct FlatPart {
     pub slice: u32,
     pub at: usize,
