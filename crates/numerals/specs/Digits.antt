@@ -1,7 +1,6 @@
 -- Numbers as text in ASCII, and what a reader makes of digits.
 use Rattle.std.specs.Prelude.{ℕ, zero, suc, ◌+◌, ◌-◌, ◌*◌, ◌/◌, ◌%◌, ◌<◌, ◌≡◌, cond, List, [], ◌∷◌, ◌++◌, map, ltb, get_or, ℤ, pos, negsuc}
 use Prim.Native.Char.{code}
-use Prim.Native.String
 use Prim.Native.String.{String}
 use Rattle.wire.specs.Status.{signed_of}
 use Rattle.ground.specs.Lists.{joined}

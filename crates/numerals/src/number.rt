@@ -20,7 +20,7 @@ const MAX_DIGITS: usize = 20;
 pub(crate) const PAIR: usize = 2;
 
 // A number's digits, at the end of an array.
-#[derive(Drop)]
+#[derive(Clone, Copy)]
 pub(crate) struct Numeral {
     pub bytes: [u8; MAX_DIGITS],
     pub from: usize,

@@ -19,7 +19,7 @@ const PACKETS_LEN: usize = WORD_LEN + MAX_PACKETS * (2 * FIELD_LEN) + 1;
 const TEXT_LEN: usize = PACKETS_LEN;
 
 // The first len bytes are the text.
-#[derive(Drop)]
+#[derive(Clone, Copy)]
 pub struct Text {
     pub bytes: [u8; TEXT_LEN],
     pub len: usize,

@@ -31,7 +31,7 @@ fn is_end(event: Event) -> bool
 }
 
 // One feed, at time 0: the next session, the bytes consumed, whether nothing more is fed, and how many bytes of lines were put.
-#[derive(Drop)]
+#[derive(Clone, Copy)]
 pub struct Told {
     pub session: Session,
     pub consumed: usize,

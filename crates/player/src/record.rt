@@ -20,7 +20,7 @@ use tape::reader::{Record, stream_bytes};
 use tape::table::device_data;
 
 // The next session, and how many bytes of lines were put.
-#[derive(Drop)]
+#[derive(Clone, Copy)]
 pub struct Played {
     pub session: Session,
     pub len: usize,

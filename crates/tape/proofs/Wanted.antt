@@ -1,5 +1,5 @@
 -- The laws of what is wanted: no byte behind the record, and as many as tell it.
-use Rattle.std.proofs.Common.{◌≡◌, ℕ, ◌+◌, ◌≤◌, eqb, ◌⊎◌, List, [], ◌∷◌, ◌++◌, length, drop, sym, refl, ap, ◌∙◌, inl, inr, ⊎_elim, arith, length-append, length-drop, le-ltb}
+use Rattle.std.proofs.Common.{◌≡◌, ℕ, ◌≤◌, eqb, List, [], ◌∷◌, ◌++◌, length, drop, sym, refl, ap, ◌∙◌, inl, inr, ⊎_elim, arith, length-append, length-drop, le-ltb}
 use lib.Seq.{take-append-le, drop-append-le}
 use Rattle.ground.proofs.Cases.{by_cond}
 use Rattle.wire.specs.Fields.{unpack, widths, size}

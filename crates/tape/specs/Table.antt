@@ -1,5 +1,5 @@
 -- "Its table has one device: path `/deck/1-1`, busid `1-1`, busnum 1, devnum 15, all else 0" (PROTOCOL.md, 10.1).
-use Rattle.std.specs.Prelude.{ℕ, ◌-◌, List, [], ◌∷◌, replicate}
+use Rattle.std.specs.Prelude.{ℕ, List, [], ◌∷◌, replicate}
 use Rattle.wire.specs.Codes.{BUSID-LEN}
 use Rattle.exports.specs.declared.device.Device.{Device}
 use Rattle.exports.specs.declared.device.Table.{Table}

@@ -13,7 +13,7 @@ use wire::number::{be2, be4, be8};
 
 // A record: how many stream bytes it has; a completion by the device (actual is actual_length); one of an isochronous URB, with as
 // many results; a close. `fields_of` in specs/ gives each case's mark and fields.
-#[derive(Drop)]
+#[derive(Clone, Copy)]
 pub enum Record {
     Stream(u16),
     Completion {
@@ -30,14 +30,14 @@ pub enum Record {
 }
 
 // What stands at the front of a tape: a record, or one that doesn't read.
-#[derive(Drop)]
+#[derive(Clone, Copy)]
 pub enum Read {
     Record(Record),
     Bad,
 }
 
 // What the first bytes of a record tell: which it is, how many bytes are needed to tell more, or that it doesn't read.
-#[derive(Drop)]
+#[derive(Clone, Copy)]
 enum Head {
     Record(Record),
     Short(usize),
@@ -83,6 +83,7 @@ fn field64(bytes: &[u8], at: usize) -> u64
 }
 
 // Behind `C>`.
+#[tactic(auto, unfolding(crate::specs::Tape::stream_head))]
 fn stream_head(bytes: &[u8]) -> Head
     ensures { result ≡ stream_head bytes.now }
 {
@@ -97,6 +98,7 @@ fn stream_head(bytes: &[u8]) -> Head
 }
 
 // Behind `D>`.
+#[tactic(auto, unfolding(crate::specs::Tape::completion_head))]
 fn completion_head(bytes: &[u8]) -> Head
     ensures { result ≡ completion_head bytes.now }
 {
@@ -112,6 +114,7 @@ fn completion_head(bytes: &[u8]) -> Head
 }
 
 // Behind `I>`.
+#[tactic(auto, unfolding(crate::specs::Tape::iso_head))]
 fn iso_head(bytes: &[u8]) -> Head
     ensures { result ≡ iso_head bytes.now }
 {
@@ -130,6 +133,7 @@ fn iso_head(bytes: &[u8]) -> Head
     Head::Record(iso)
 }
 
+#[tactic(auto, unfolding(crate::specs::Tape::head_of))]
 fn read_head(bytes: &[u8]) -> Head
     ensures { result ≡ head_of bytes.now }
 {

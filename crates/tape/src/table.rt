@@ -25,6 +25,7 @@ fn busid() -> [u8; BUSID_LEN]
 }
 
 // The table of one device, which every place of the array holds: what stands past the count is free.
+#[tactic(auto, unfolding(crate::specs::Table::tape_table))]
 pub fn tape_table() -> Table
     ensures { result ≡ tape_table }
 {

@@ -1,4 +1,6 @@
 // The lines that the program `trace` adds to those of `replay`, as bytes. What each is stands in specs/.
+#![tactic(auto)]
+
 ghost use Rattle.std.specs.Prelude.{ℕ, ◌+◌, ◌*◌, ◌≤◌, List, [], ◌∷◌, take};
 ghost use Rattle.ground.specs.Writing.{Wrote};
 ghost use Rattle.limits.specs.Limits.{MAX-PACKETS};
@@ -131,6 +133,7 @@ pub fn trace_removed(r: Removed, out: &mut [u8]) -> usize
 }
 
 // The same of a completion of so many packets and the header buffer that it left.
+#[tactic(auto, unfolding(numerals::specs::Digits::numeral, numerals::specs::Digits::digits))]
 pub fn trace_header(packets: usize, answer: Completion, header: &[u8], out: &mut [u8]) -> usize
     requires { packets ≤ MAX-PACKETS }
     ensures { Wrote (header_trace packets (completion_of answer) header.now) out.old out.new result }
