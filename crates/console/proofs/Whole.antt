@@ -16,5 +16,5 @@ by : (bytes : List ℕ) (r : Record) (c : Bool) → cond c Read.Bad (read_of byt
 by bytes r true e = let z : ◌≡◌ {A = ℕ} 0 1 = cc in omega arith
 by bytes r false e = read_whole bytes r e
 
-pub next-whole : (before : ℕ) (bytes : List ℕ) (r : Record) → read_behind before bytes ≡ Read.Record r → length_of r ≤ length bytes
-next-whole before bytes r e = by bytes r (leb MAX-RECORDS before) e
+pub next_whole : (before : ℕ) (bytes : List ℕ) (r : Record) → read_behind before bytes ≡ Read.Record r → length_of r ≤ length bytes
+next_whole before bytes r e = by bytes r (leb MAX-RECORDS before) e

@@ -1,5 +1,7 @@
 // The loop of the programs `replay` and `trace`: a tape from standard input is played record by record, and the lines go to
 // standard output. What a record is, does and prints stands in `tape` and `player`; here is only what reads and writes.
+#![tactic(auto)]
+
 mod input;
 mod output;
 
@@ -12,26 +14,30 @@ use limits::{REPLY_LEN, WORK_LEN};
 use lines::replay::{bad_tape_line, end_line};
 use player::record::play_record;
 use session::state::Session;
+use std::io;
 use tape::layout::MAX_RECORDS;
 use tape::reader::{Read, read_next, record_len};
 use tape::table::tape_table;
 
 // Prints the lines in the buffer, and that a record doesn't read.
-fn print_bad_tape(out: &mut [u8], len: usize) {
-    flush(out, len);
+fn print_bad_tape<W: io::Write>(writer: &mut W, out: &mut [u8], len: usize) -> io::Result<()> {
+    flush(writer, out, len)?;
     let n = bad_tape_line(out);
-    flush(out, n);
+    flush(writer, out, n)
 }
 
 // Plays the records of the tape, and gives the session that they leave.
-fn play_records(
+#[tactic(auto, using(crate::proofs::Whole::next_whole))]
+fn play_records<R: io::Read, W: io::Write>(
+    reader: &mut R,
+    writer: &mut W,
     session: Session,
     traced: bool,
     input: &mut [u8],
     work: &mut [u8],
     reply: &mut [u8],
     out: &mut [u8],
-) -> Session
+) -> io::Result<Session>
     requires { Layout.MAX-RECORD-LEN ≤ length input.old }
 {
     let mut s = session;
@@ -39,19 +45,19 @@ fn play_records(
     let mut len: usize = 0;
     let mut n: usize = 0;
     while n <= MAX_RECORDS {
-        window = refill(input, window);
+        window = refill(reader, input, window)?;
         let at = window.at;
         let end = window.end;
         if at == end {
-            flush(out, len);
-            return s;
+            flush(writer, out, len)?;
+            return Ok(s);
         }
         let read = read_next(n, &input[at..end]);
         let Read::Record(r) = read else {
-            print_bad_tape(out, len);
-            return s;
+            print_bad_tape(writer, out, len)?;
+            return Ok(s);
         };
-        len = make_room(out, len);
+        len = make_room(writer, out, len)?;
         let played = play_record(s, traced, r, &input[at..end], work, reply, &mut out[len..]);
         s = played.session;
         len += played.len;
@@ -59,20 +65,31 @@ fn play_records(
         window = Window { at: next, ..window };
         n += 1;
     }
-    s
+    Ok(s)
 }
 
-// Plays the tape on standard input; traced: with every byte visible.
-pub fn play_tape(traced: bool) {
+// Plays the tape on standard input; traced: with every byte visible. A read or a write that fails ends it.
+pub fn play_tape<R: Input + Print>(rt: &R, traced: bool) -> io::Result<()> {
     let mut input = [0u8; INPUT_LEN];
     let mut work = [0u8; WORK_LEN];
     let mut reply = [0u8; REPLY_LEN];
     let mut out = [0u8; OUTPUT_LEN];
+    let mut reader = rt.reader();
+    let mut writer = io::writer(rt);
     let table = tape_table();
     let opened = Session::open(table);
     let fresh = opened.session;
-    let last = play_records(fresh, traced, &mut input, &mut work, &mut reply, &mut out);
+    let last = play_records(
+        &mut reader,
+        &mut writer,
+        fresh,
+        traced,
+        &mut input,
+        &mut work,
+        &mut reply,
+        &mut out,
+    )?;
     let numbers = last.numbers();
     let n = end_line(numbers, &mut out);
-    flush(&out, n);
+    flush(&mut writer, &out, n)
 }

@@ -1,7 +1,9 @@
 // The lines on their way to standard output.
-ghost use Rattle.std.specs.Prelude.{◌≤◌};
+ghost use Rattle.std.specs.Prelude.{◌≤◌, IfOk, OnErr, length};
+ghost use Rattle.console.specs.declared.output.TheConstants.{FULL};
 
-use libc::STDOUT_FILENO;
+use std::io;
+use std::io::Write;
 
 // The output buffer, and how full it gets before it is printed. What is left then has room for the lines of a record: 353 messages
 // of 48 bytes fill one, and a submit is traced in at most 250 bytes, two for each byte of its data and 32 for each packet.
@@ -10,19 +12,23 @@ pub(crate) const OUTPUT_LEN: usize = 262_144;
 const FULL: usize = 131_072;
 
 // Prints the front of the buffer.
-pub(crate) fn flush(out: &[u8], len: usize) {
+pub(crate) fn flush<W: Write>(writer: &mut W, out: &[u8], len: usize) -> io::Result<()>
+    ensures { OnErr result (len ≤ length out.now) }
+{
     if len <= out.len() {
-        io::write_all(STDOUT_FILENO, &out[0..len]);
+        writer.write_all(&out[0..len])?;
     }
+    Ok(())
 }
 
 // Makes room for the lines of a record: how far the buffer is filled then.
-pub(crate) fn make_room(out: &[u8], len: usize) -> usize
-    ensures { result ≤ len }
+pub(crate) fn make_room<W: Write>(writer: &mut W, out: &[u8], len: usize) -> io::Result<usize>
+    ensures ok { IfOk result (λ n. n ≤ len) }
+    ensures err { OnErr result (FULL ≤ len) }
 {
     if len < FULL {
-        return len;
+        return Ok(len);
     }
-    flush(out, len);
-    0
+    flush(writer, out, len)?;
+    Ok(0)
 }

@@ -1,4 +1,8 @@
 // Replays the tape on standard input: a line for each answer.
-fn main() {
-    console::play_tape(false);
+#![tactic(auto)]
+
+use std::io;
+
+fn main(rt: HostRuntime) -> io::Result<()> {
+    console::play_tape(&rt, false)
 }

@@ -1,4 +1,8 @@
 // Replays the tape on standard input with every byte visible.
-fn main() {
-    console::play_tape(true);
+#![tactic(auto)]
+
+use std::io;
+
+fn main(rt: HostRuntime) -> io::Result<()> {
+    console::play_tape(&rt, true)
 }
