@@ -1,8 +1,3 @@
--- Laws: what the walks over lent elements share (Rows, Lent, Item, Row), and of URBs.
-pub mod Rows
-pub mod Lent
-pub mod Item
-pub mod Row
-pub mod Urbs
+-- Why the code gives what the definitions say: the loops as laws of lists (Parts), and what is seen at a place that was sought (Seen).
 pub mod Parts
 pub mod Seen
