@@ -1,5 +1,5 @@
 -- The ages of pending URBs (PROTOCOL.md, 3.5): how long ago each arrived, on a clock that wraps.
-use Rattle.std.specs.Prelude.{◌≡◌, ℕ, ◌+◌, ◌-◌, ◌%◌, ◌<◌, Bool, cond, ◌↔◌, List, [], ◌∷◌, nat_le}
+use Rattle.std.specs.Prelude.{◌≡◌, ℕ, ◌+◌, ◌-◌, ◌%◌, ◌<◌, Bool, ◌↔◌, List, filter, nat_le}
 use Rattle.pending.specs.declared.urb.Urb.{Urb}
 
 -- "32-bit milliseconds that wrap": one round of the clock, 2^32.
@@ -16,8 +16,7 @@ is_stale time limit u = nat_le limit (age_at time u.arrival)
 
 -- Those of a list that are stale, in its order.
 abbrev pub stale_in : (time limit : ℕ) → List Urb → List Urb
-stale_in time limit [] = []
-stale_in time limit (u ∷ us) = cond (is_stale time limit u) (u ∷ stale_in time limit us) (stale_in time limit us)
+stale_in time limit us = filter (is_stale time limit) us
 
 -- So many milliseconds, less than a round, after an arrival the clock shows a time.
 abbrev pub Shows : (arrival age time : ℕ) → Type 0

@@ -1,23 +1,16 @@
 -- An answer as numbers, a row for each of its cases.
-use Rattle.std.specs.Prelude.{ℕ, ◌-◌, cond, List, eqb, ltb, take, drop}
+use Rattle.std.specs.Prelude.{ℕ, ◌-◌, cond, Option, Some, None, Result, Ok, Err, List, eqb, ltb, take, drop}
 use Rattle.wire.specs.Codes.{HEADER-LEN}
 use Rattle.limits.specs.Limits
 use Rattle.messages.specs.declared.message.Transfer.{Transfer}
 use Rattle.packets.specs.declared.packet.Packet.{Packet}
 use Rattle.pending.specs.Pending.{no_transfer}
 use Rattle.pending.specs.declared.counts.Numbers.{Numbers}
-use Rattle.events.specs.declared.answer.Opening.{Opening}
-use Rattle.events.specs.declared.answer.Opening.TheVariants.{Ready, Refused as OpeningRefused}
-use Rattle.events.specs.declared.answer.Removed.{Removed}
-use Rattle.events.specs.declared.answer.Removed.TheVariants.{Ticket, Nothing}
 use Rattle.events.specs.declared.answer.Event.{Event}
 use Rattle.events.specs.declared.answer.Event.TheVariants.{Hungry, List as Listed, Import, Submit, Answer, Unlink, Break, Refused}
-use Rattle.events.specs.declared.answer.Completion.{Completion}
-use Rattle.events.specs.declared.answer.Completion.TheVariants.{Return, Refused as CompletionRefused}
-use Rattle.events.specs.declared.answer.Closing.{Closing}
-use Rattle.events.specs.declared.answer.Closing.TheVariants.{End, Refused as ClosingRefused}
-use Rattle.events.specs.declared.answer.Inquiry.{Inquiry}
-use Rattle.events.specs.declared.answer.Inquiry.TheVariants.{Listed as StaleListed, Refused as InquiryRefused}
+use Rattle.events.specs.declared.answer.Returned.{Returned}
+use Rattle.verdicts.specs.Numbers.{refusal_number, fault_number}
+use Rattle.verdicts.specs.declared.verdict.Refusal.{Refusal}
 use Rattle.session.specs.declared.answer.Opened.{Opened}
 use Rattle.session.specs.declared.answer.Fed.{Fed}
 use Rattle.session.specs.declared.answer.Completed.{Completed}
@@ -77,9 +70,9 @@ event_row kind number status seqnum at removed ticket transfer setup arrival iso
     }
 
 -- Tickets count from 1, so that 0 is none.
-abbrev pub removed_ticket : Removed → ℕ
-removed_ticket (Ticket t) = t
-removed_ticket Nothing = 0
+abbrev pub removed_ticket : Option ℕ → ℕ
+removed_ticket None = 0
+removed_ticket (Some t) = t
 
 -- What an event doesn't have is 0.     kind    number      status  seqnum  at      removed            ticket  transfer   setup  arrival iso
 abbrev pub flat_event : Event → List ℕ → List Packet → FlatEvent
@@ -89,37 +82,25 @@ flat_event (Import st) setup iso = event_row IMPORT 0 st 0 0 0 0 no_transfer set
 flat_event (Submit t a u) setup iso = event_row SUBMIT 0 0 0 0 0 t u setup a iso
 flat_event (Answer q st) setup iso = event_row ANSWER 0 st q 0 0 0 no_transfer setup 0 iso
 flat_event (Unlink q st r) setup iso = event_row UNLINK 0 st q 0 (removed_ticket r) 0 no_transfer setup 0 iso
-flat_event (Break f) setup iso = event_row BREAK f.number 0 0 f.at 0 0 no_transfer setup 0 iso
-flat_event (Refused n) setup iso = event_row REFUSED n 0 0 0 0 0 no_transfer setup 0 iso
+flat_event (Break f) setup iso = event_row BREAK (fault_number f.kind) 0 0 f.at 0 0 no_transfer setup 0 iso
+flat_event (Refused r) setup iso = event_row REFUSED (refusal_number r) 0 0 0 0 0 no_transfer setup 0 iso
 
 -- ## What the acts hand back: 0, or a refusal's number
 
-abbrev pub opening_number : Opening → ℕ
-opening_number Ready = 0
-opening_number (OpeningRefused n) = n
+abbrev pub answer_number : {A : Type 0} → Result A Refusal → ℕ
+answer_number (Ok x) = 0
+answer_number (Err r) = refusal_number r
 
-abbrev pub completion_number : Completion → ℕ
-completion_number (Return n st) = 0
-completion_number (CompletionRefused n) = n
+abbrev pub completion_length : Result Returned Refusal → ℕ
+completion_length (Ok r) = r.length
+completion_length (Err r) = 0
 
-abbrev pub completion_length : Completion → ℕ
-completion_length (Return n st) = n
-completion_length (CompletionRefused n) = 0
-
-abbrev pub completion_status : Completion → ℕ
-completion_status (Return n st) = st
-completion_status (CompletionRefused n) = 0
-
-abbrev pub closing_number : Closing → ℕ
-closing_number End = 0
-closing_number (ClosingRefused n) = n
-
-abbrev pub inquiry_number : Inquiry → ℕ
-inquiry_number StaleListed = 0
-inquiry_number (InquiryRefused n) = n
+abbrev pub completion_status : Result Returned Refusal → ℕ
+completion_status (Ok r) = r.status
+completion_status (Err r) = 0
 
 abbrev pub flat_opened : Opened → FlatOpened
-flat_opened r = record { session = r.session; refusal = opening_number r.answer }
+flat_opened r = record { session = r.session; refusal = answer_number r.answer }
 
 abbrev pub flat_fed : Fed → FlatFed
 flat_fed r =
@@ -135,13 +116,13 @@ flat_fed r =
 abbrev pub flat_completed : Completed → FlatCompleted
 flat_completed r =
     let a = r.answer in
-    record { session = r.session; refusal = completion_number a; status = completion_status a; length = completion_length a }
+    record { session = r.session; refusal = answer_number a; status = completion_status a; length = completion_length a }
 
 abbrev pub flat_closed : Closed → FlatClosed
-flat_closed r = record { session = r.session; refusal = closing_number r.answer; dropped = r.dropped }
+flat_closed r = record { session = r.session; refusal = answer_number r.answer; dropped = r.dropped }
 
 abbrev pub flat_inquired : Inquired → FlatInquired
-flat_inquired r = record { refusal = inquiry_number r.answer; stale = r.stale }
+flat_inquired r = record { refusal = answer_number r.answer; stale = r.stale }
 
 abbrev pub flat_numbers : Numbers → FlatNumbers
 flat_numbers n =

@@ -8,10 +8,7 @@ ghost use Rattle.session.specs.Views.{view_of, handed};
 ghost use Rattle.capi.specs.Flat.{flat_numbers};
 ghost use Rattle.capi.specs.Faces.{OpensFlat, FeedsFlat, CompletesFlat, ClosesFlat, InquiresFlat};
 
-use crate::flat::{
-    FlatClosed, FlatCompleted, FlatFed, FlatInquired, FlatNumbers, FlatOpened, closing_number,
-    flat_completed, flat_event, inquiry_number, opening_number,
-};
+use crate::flat::{FlatClosed, FlatCompleted, FlatFed, FlatInquired, FlatNumbers, FlatOpened};
 use exports::device::Table;
 use results::Results;
 use session::state::Session;
@@ -20,13 +17,7 @@ use session::state::Session;
 pub extern "C" fn rimemaple_open(table: Table) -> FlatOpened
     ensures { OpensFlat table result }
 {
-    let opened = Session::open(table);
-    let next = opened.session;
-    let answer = opened.answer;
-    FlatOpened {
-        session: next,
-        refusal: opening_number(answer),
-    }
+    FlatOpened::from(Session::open(table))
 }
 
 #[unsafe(no_mangle)]
@@ -39,20 +30,7 @@ pub extern "C" fn rimemaple_feed(
 ) -> FlatFed
     ensures { FeedsFlat session piece.now (lent work.old reply.old) (lent work.new reply.new) time result }
 {
-    let fed = session.feed(piece, work, reply, time);
-    let next = fed.session;
-    let answer = fed.answer;
-    let event = answer.event;
-    let setup = answer.setup;
-    let iso = answer.iso;
-    let dropped = fed.dropped;
-    FlatFed {
-        session: next,
-        event: flat_event(event, setup, iso),
-        consumed: answer.consumed,
-        length: answer.length,
-        dropped: dropped,
-    }
+    FlatFed::from(session.feed(piece, work, reply, time))
 }
 
 #[unsafe(no_mangle)]
@@ -66,8 +44,7 @@ pub extern "C" fn rimemaple_complete(
 ) -> FlatCompleted
     ensures { CompletesFlat session (handed plain ticket status actual payload.now header.old) header.new result }
 {
-    let done = session.complete(ticket, status, actual, payload, header);
-    flat_completed(done)
+    FlatCompleted::from(session.complete(ticket, status, actual, payload, header))
 }
 
 // The same for an isochronous URB, with a result for each packet.
@@ -85,22 +62,14 @@ pub extern "C" fn rimemaple_complete_iso(
         header.new result }
 {
     let done = session.complete_iso(ticket, status, total, results, payload, header);
-    flat_completed(done)
+    FlatCompleted::from(done)
 }
 
 #[unsafe(no_mangle)]
 pub extern "C" fn rimemaple_close(session: Session) -> FlatClosed
     ensures { ClosesFlat session result }
 {
-    let closed = session.close();
-    let next = closed.session;
-    let answer = closed.answer;
-    let dropped = closed.dropped;
-    FlatClosed {
-        session: next,
-        refusal: closing_number(answer),
-        dropped: dropped,
-    }
+    FlatClosed::from(session.close())
 }
 
 // The tickets of the pending URBs whose age at a time is at least a limit; nothing changes.
@@ -108,13 +77,7 @@ pub extern "C" fn rimemaple_close(session: Session) -> FlatClosed
 pub extern "C" fn rimemaple_stale(session: Session, time: u32, limit: u32) -> FlatInquired
     ensures { InquiresFlat session time limit result }
 {
-    let inquired = session.stale(time, limit);
-    let answer = inquired.answer;
-    let stale = inquired.stale;
-    FlatInquired {
-        refusal: inquiry_number(answer),
-        stale: stale,
-    }
+    FlatInquired::from(session.stale(time, limit))
 }
 
 // How many URBs were accepted, are pending, were returned, unlinked and dropped.
@@ -122,14 +85,7 @@ pub extern "C" fn rimemaple_stale(session: Session, time: u32, limit: u32) -> Fl
 pub extern "C" fn rimemaple_numbers(session: Session) -> FlatNumbers
     ensures { result ≡ flat_numbers (numbers_of (view_of session)) }
 {
-    let n = session.numbers();
-    FlatNumbers {
-        accepted: n.accepted,
-        pending: n.pending,
-        returned: n.returned,
-        unlinked: n.unlinked,
-        dropped: n.dropped,
-    }
+    FlatNumbers::from(session.numbers())
 }
 
 // The devid of the device that is served; 0 while none is attached.

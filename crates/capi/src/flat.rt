@@ -2,20 +2,21 @@
 ghost use Rattle.std.specs.Prelude.{◌≡◌};
 ghost use Rattle.pending.specs.Pending.{no_transfer};
 ghost use Rattle.capi.specs.Flat;
-ghost use Rattle.capi.specs.Flat.{event_row, removed_ticket, flat_event, opening_number, completion_number, completion_status, completion_length, closing_number};
-ghost use Rattle.capi.specs.Flat.{inquiry_number, flat_completed};
+ghost use Rattle.capi.specs.Flat.{event_row, removed_ticket, flat_event, answer_number, completion_status, completion_length};
+ghost use Rattle.capi.specs.Flat.{flat_opened, flat_fed, flat_completed, flat_closed, flat_inquired, flat_numbers};
 
-use events::answer::{Closing, Completion, Event, Inquiry, Opening, Removed};
+use events::answer::{Event, Returned};
 use limits::MAX_PACKETS;
 use messages::message::Transfer;
 use packets::packet::Packet;
+use pending::counts::Numbers;
 use pending::list::Tickets;
-use session::answer::Completed;
+use session::answer::{Closed, Completed, Fed, Inquired, Opened};
 use session::state::Session;
-use verdicts::verdict::Fault;
+use verdicts::verdict::Refusal;
 use wire::codes::SETUP_LEN;
 
-// The kinds of an event.
+// The kinds of an event: numbers, as the C header has them.
 pub const HUNGRY: u32 = 0;
 
 pub const LIST: u32 = 1;
@@ -104,103 +105,32 @@ pub struct FlatNumbers {
     pub dropped: u64,
 }
 
-fn no_transfer() -> Transfer
-    ensures { result ≡ no_transfer }
-{
-    Transfer {
-        seqnum: 0,
-        direction: 0,
-        ep: 0,
-        flags: 0,
-        length: 0,
-        start: 0,
-        packets: 0,
-        interval: 0,
-    }
-}
-
-// An event that has nothing but its kind.
-fn bare(kind: u32, setup: [u8; SETUP_LEN], iso: [Packet; MAX_PACKETS]) -> FlatEvent
-    ensures { result ≡ event_row kind 0 0 0 0 0 0 no_transfer setup 0 iso }
+// An event that has nothing, with setup bytes and packets beside it.
+fn bare(setup: [u8; SETUP_LEN], iso: [Packet; MAX_PACKETS]) -> FlatEvent
+    ensures { result ≡ event_row Flat.HUNGRY 0 0 0 0 0 0 no_transfer setup 0 iso }
 {
     FlatEvent {
-        kind: kind,
+        kind: HUNGRY,
         number: 0,
         status: 0,
         seqnum: 0,
         at: 0,
         removed: 0,
         ticket: 0,
-        transfer: no_transfer(),
+        transfer: Transfer::default(),
         setup: setup,
         arrival: 0,
         iso: iso,
     }
 }
 
-fn removed_ticket(removed: Removed) -> u64
+// Tickets count from 1, so that 0 is none.
+fn removed_ticket(removed: Option<u64>) -> u64
     ensures { result ≡ removed_ticket removed }
 {
     match removed {
-        Removed::Ticket(t) => t,
-        Removed::Nothing => 0,
-    }
-}
-
-// One that has a number.
-fn numbered(kind: u32, number: u32, setup: [u8; SETUP_LEN], iso: [Packet; MAX_PACKETS]) -> FlatEvent
-    ensures { result ≡ event_row kind number 0 0 0 0 0 no_transfer setup 0 iso }
-{
-    let e = bare(kind, setup, iso);
-    FlatEvent {
-        number: number,
-        ..e
-    }
-}
-
-// A break: its fault's number and place.
-fn broken(fault: Fault, setup: [u8; SETUP_LEN], iso: [Packet; MAX_PACKETS]) -> FlatEvent
-    ensures { result ≡ event_row Flat.BREAK fault.number 0 0 fault.at 0 0 no_transfer setup 0 iso }
-{
-    let e = numbered(BREAK, fault.number, setup, iso);
-    FlatEvent { at: fault.at, ..e }
-}
-
-// One that has a status, and what stands beside it.
-fn answered(
-    kind: u32,
-    status: u32,
-    seqnum: u32,
-    removed: u64,
-    setup: [u8; SETUP_LEN],
-    iso: [Packet; MAX_PACKETS],
-) -> FlatEvent
-    ensures { result ≡ event_row kind 0 status seqnum 0 removed 0 no_transfer setup 0 iso }
-{
-    let e = bare(kind, setup, iso);
-    FlatEvent {
-        status: status,
-        seqnum: seqnum,
-        removed: removed,
-        ..e
-    }
-}
-
-fn accepted(
-    ticket: u64,
-    arrival: u32,
-    transfer: Transfer,
-    setup: [u8; SETUP_LEN],
-    iso: [Packet; MAX_PACKETS],
-) -> FlatEvent
-    ensures { result ≡ event_row Flat.SUBMIT 0 0 0 0 0 ticket transfer setup arrival iso }
-{
-    let e = bare(SUBMIT, setup, iso);
-    FlatEvent {
-        ticket: ticket,
-        transfer: transfer,
-        arrival: arrival,
-        ..e
+        None => 0,
+        Some(ticket) => ticket,
     }
 }
 
@@ -211,85 +141,152 @@ pub(crate) fn flat_event(
 ) -> FlatEvent
     ensures { result ≡ flat_event event setup iso }
 {
+    let bare = bare(setup, iso);
     match event {
-        Event::Hungry => bare(HUNGRY, setup, iso),
-        Event::List => bare(LIST, setup, iso),
-        Event::Import(status) => answered(IMPORT, status, 0, 0, setup, iso),
-        Event::Submit(ticket, arrival, transfer) => accepted(ticket, arrival, transfer, setup, iso),
-        Event::Answer(seqnum, status) => answered(ANSWER, status, seqnum, 0, setup, iso),
-        Event::Unlink(seqnum, status, removed) => {
-            let ticket = removed_ticket(removed);
-            answered(UNLINK, status, seqnum, ticket, setup, iso)
+        Event::Hungry => bare,
+        Event::List => FlatEvent { kind: LIST, ..bare },
+        Event::Import(status) => FlatEvent {
+            kind: IMPORT,
+            status: status,
+            ..bare
+        },
+        Event::Submit(ticket, arrival, transfer) => FlatEvent {
+            kind: SUBMIT,
+            ticket: ticket,
+            arrival: arrival,
+            transfer: transfer,
+            ..bare
+        },
+        Event::Answer(seqnum, status) => FlatEvent {
+            kind: ANSWER,
+            seqnum: seqnum,
+            status: status,
+            ..bare
+        },
+        Event::Unlink(seqnum, status, removed) => FlatEvent {
+            kind: UNLINK,
+            seqnum: seqnum,
+            status: status,
+            removed: removed_ticket(removed),
+            ..bare
+        },
+        Event::Break(fault) => FlatEvent {
+            kind: BREAK,
+            number: u32::from(fault.kind),
+            at: fault.at,
+            ..bare
+        },
+        Event::Refused(refusal) => FlatEvent {
+            kind: REFUSED,
+            number: u32::from(refusal),
+            ..bare
+        },
+    }
+}
+
+// The number of a refusal; 0 where there is none.
+fn number_of<T: Drop>(answer: Result<T, Refusal>) -> u32
+    ensures { result ≡ answer_number answer }
+{
+    match answer {
+        Ok(_) => 0,
+        Err(refusal) => u32::from(refusal),
+    }
+}
+
+impl From<Opened> for FlatOpened {
+    ghost from_gives = { λ opened flat. flat ≡ flat_opened opened };
+
+    fn from(opened: Opened) -> FlatOpened {
+        let next = opened.session;
+        FlatOpened {
+            session: next,
+            refusal: number_of(opened.answer),
         }
-        Event::Break(fault) => broken(fault, setup, iso),
-        Event::Refused(n) => numbered(REFUSED, n, setup, iso),
     }
 }
 
-pub(crate) fn opening_number(answer: Opening) -> u32
-    ensures { result ≡ opening_number answer }
+impl From<Fed> for FlatFed {
+    ghost from_gives = { λ fed flat. flat ≡ flat_fed fed };
+
+    fn from(fed: Fed) -> FlatFed {
+        let next = fed.session;
+        let answer = fed.answer;
+        let dropped = fed.dropped;
+        FlatFed {
+            session: next,
+            event: flat_event(answer.event, answer.setup, answer.iso),
+            consumed: answer.consumed,
+            length: answer.length,
+            dropped: dropped,
+        }
+    }
+}
+
+// What a URB was returned with; zeros where the completion was refused.
+fn returned(answer: Result<Returned, Refusal>) -> Returned
+    ensures { result ≡ record { length = completion_length answer; status = completion_status answer } }
 {
     match answer {
-        Opening::Ready => 0,
-        Opening::Refused(n) => n,
+        Ok(returned) => returned,
+        Err(_) => Returned {
+            length: 0,
+            status: 0,
+        },
     }
 }
 
-fn completion_number(answer: Completion) -> u32
-    ensures { result ≡ completion_number answer }
-{
-    match answer {
-        Completion::Return(_, _) => 0,
-        Completion::Refused(n) => n,
+impl From<Completed> for FlatCompleted {
+    ghost from_gives = { λ done flat. flat ≡ flat_completed done };
+
+    fn from(done: Completed) -> FlatCompleted {
+        let next = done.session;
+        let returned = returned(done.answer);
+        FlatCompleted {
+            session: next,
+            refusal: number_of(done.answer),
+            status: returned.status,
+            length: returned.length,
+        }
     }
 }
 
-fn completion_status(answer: Completion) -> u32
-    ensures { result ≡ completion_status answer }
-{
-    match answer {
-        Completion::Return(_, status) => status,
-        Completion::Refused(_) => 0,
+impl From<Closed> for FlatClosed {
+    ghost from_gives = { λ closed flat. flat ≡ flat_closed closed };
+
+    fn from(closed: Closed) -> FlatClosed {
+        let next = closed.session;
+        let dropped = closed.dropped;
+        FlatClosed {
+            session: next,
+            refusal: number_of(closed.answer),
+            dropped: dropped,
+        }
     }
 }
 
-fn completion_length(answer: Completion) -> u64
-    ensures { result ≡ completion_length answer }
-{
-    match answer {
-        Completion::Return(n, _) => n,
-        Completion::Refused(_) => 0,
+impl From<Inquired> for FlatInquired {
+    ghost from_gives = { λ inquired flat. flat ≡ flat_inquired inquired };
+
+    fn from(inquired: Inquired) -> FlatInquired {
+        let stale = inquired.stale;
+        FlatInquired {
+            refusal: number_of(inquired.answer),
+            stale: stale,
+        }
     }
 }
 
-// What a completion of either kind hands back.
-pub(crate) fn flat_completed(done: Completed) -> FlatCompleted
-    ensures { result ≡ flat_completed done }
-{
-    let next = done.session;
-    let answer = done.answer;
-    FlatCompleted {
-        session: next,
-        refusal: completion_number(answer),
-        status: completion_status(answer),
-        length: completion_length(answer),
-    }
-}
+impl From<Numbers> for FlatNumbers {
+    ghost from_gives = { λ n flat. flat ≡ flat_numbers n };
 
-pub(crate) fn closing_number(answer: Closing) -> u32
-    ensures { result ≡ closing_number answer }
-{
-    match answer {
-        Closing::End => 0,
-        Closing::Refused(n) => n,
-    }
-}
-
-pub(crate) fn inquiry_number(answer: Inquiry) -> u32
-    ensures { result ≡ inquiry_number answer }
-{
-    match answer {
-        Inquiry::Listed => 0,
-        Inquiry::Refused(n) => n,
+    fn from(n: Numbers) -> FlatNumbers {
+        FlatNumbers {
+            accepted: n.accepted,
+            pending: n.pending,
+            returned: n.returned,
+            unlinked: n.unlinked,
+            dropped: n.dropped,
+        }
     }
 }

@@ -5,7 +5,7 @@ ghost use Rattle.capi.specs.Flat.{part_row, flat_part, bytes_at};
 
 use wire::codes::HEADER_LEN;
 
-// The slices that a part may be of.
+// The slices that a part may be of: numbers, as the C header has them.
 pub const OF_HEADER: u32 = 0;
 
 pub const OF_PAYLOAD: u32 = 1;

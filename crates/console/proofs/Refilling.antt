@@ -6,14 +6,22 @@ use mathlib.Core.Bool.{Bool, true, false}
 use mathlib.Core.List.{List}
 use mathlib.Core.Logic.{◌⊎◌, inl, inr}
 use lib.Dec.{ltb}
-use lib.ListN.{length, take, drop, length-take}
-use lib.Seq.{take-take}
+use lib.ListN.{length, take, drop, length-take, length-drop}
+use lib.Seq.{take-take, take_at, length-take-le}
+use Rattle.std.specs.List.{copy_within}
 use borrow.Author.Tests.{ltb-true, ltb-false}
 use Rattle.tape.specs.Layout
 use Rattle.tape.specs.Tape.{ReadsAlike}
 use Rattle.tape.proofs.Wanted.{enough, wanted_room}
 use Rattle.console.specs.Windows.{window_of, Inside, Refilled}
 use Rattle.console.specs.declared.input.Window.{Window}
+
+-- the window, copied to the front
+pub copied : (buffer : List ℕ) (at end : ℕ) → at ≤ end → end ≤ length buffer
+    → take (end - at) (copy_within buffer at end 0) ≡ take (end - at) (drop at buffer)
+copied buffer at end h k =
+    let n = end - at in
+    take_at (take n (drop at buffer)) (drop (0 + n) buffer) n (length-take-le n (drop at buffer) (simp length-drop (omega arith)))
 
 -- nothing was read
 pub as_it_was : (w : Window) (buffer : List ℕ) → Inside w buffer → (w.over ≡ true) ⊎ ReadsAlike (window_of w buffer) → Refilled w w buffer buffer

@@ -12,38 +12,17 @@ use tape::reader::wanted;
 // Some of the longest records.
 pub(crate) const INPUT_LEN: usize = 4 * MAX_RECORD_LEN;
 
-// The bytes from `at` up to `end` are there; over: the input has ended.
-#[derive(Clone, Copy)]
+// The bytes from `at` up to `end` are there; over: the input has ended. No BufReader: that reads only once its buffer is used up, so that
+// a record across the buffer's end would not stand in one piece.
+#[derive(Clone, Copy, Default)]
 pub struct Window {
     pub at: usize,
     pub end: usize,
     pub over: bool,
 }
 
-// Nothing was read yet.
-pub(crate) fn no_window() -> Window
-    ensures { (result.at ≡ 0) × (result.end ≡ 0) }
-{
-    Window {
-        at: 0,
-        end: 0,
-        over: false,
-    }
-}
-
-// Moves n bytes from a place to the front.
-fn move_front(buf: &mut [u8], at: usize, n: usize)
-    requires { at + n ≤ length buf.old }
-    ensures { take n buf.new ≡ take n (drop at buf.old) }
-{
-    let mut i: usize = 0;
-    while i < n {
-        buf[i] = buf[at + i];
-        i += 1;
-    }
-}
-
-// Reads until the buffer is full or the input has ended: how many bytes came in.
+// Reads until the buffer is full or the input has ended: how many bytes came in. A plain loop: std's read_exact doesn't say how many
+// those are where the input ends.
 fn read_full<R: Read>(reader: &mut R, buf: &mut [u8]) -> io::Result<usize>
     ensures { ReadsAtMost result buf.new }
 {
@@ -73,7 +52,7 @@ pub(crate) fn refill<R: Read>(reader: &mut R, buf: &mut [u8], w: Window) -> io::
     if wanted(&buf[at..end]) <= left {
         return Ok(w);
     }
-    move_front(buf, at, left);
+    buf.copy_within(at..end, 0);
     let len = buf.len();
     let got = read_full(reader, &mut buf[left..len])?;
     let have = left + got;

@@ -8,7 +8,7 @@ mod output;
 ghost use Rattle.std.specs.Prelude.{◌≤◌, length};
 ghost use Rattle.tape.specs.Layout;
 
-use crate::input::{INPUT_LEN, Window, no_window, refill};
+use crate::input::{INPUT_LEN, Window, refill};
 use crate::output::{OUTPUT_LEN, flush, make_room};
 use limits::{REPLY_LEN, WORK_LEN};
 use lines::replay::{bad_tape_line, end_line};
@@ -16,7 +16,7 @@ use player::record::play_record;
 use session::state::Session;
 use std::io;
 use tape::layout::MAX_RECORDS;
-use tape::reader::{Read, read_next, record_len};
+use tape::reader::{read_next, record_len};
 use tape::table::tape_table;
 
 // Prints the lines in the buffer, and that a record doesn't read.
@@ -41,19 +41,17 @@ fn play_records<R: io::Read, W: io::Write>(
     requires { Layout.MAX-RECORD-LEN ≤ length input.old }
 {
     let mut s = session;
-    let mut window = no_window();
-    let mut len: usize = 0;
-    let mut n: usize = 0;
-    while n <= MAX_RECORDS {
+    let mut window = Window::default();
+    let mut len = 0;
+    // The place past the last record is looked at, too: a byte there doesn't read.
+    for n in 0..=MAX_RECORDS {
         window = refill(reader, input, window)?;
-        let at = window.at;
-        let end = window.end;
+        let Window { at, end, .. } = window;
         if at == end {
             flush(writer, out, len)?;
             return Ok(s);
         }
-        let read = read_next(n, &input[at..end]);
-        let Read::Record(r) = read else {
+        let Some(r) = read_next(n, &input[at..end]) else {
             print_bad_tape(writer, out, len)?;
             return Ok(s);
         };
@@ -61,9 +59,7 @@ fn play_records<R: io::Read, W: io::Write>(
         let played = play_record(s, traced, r, &input[at..end], work, reply, &mut out[len..]);
         s = played.session;
         len += played.len;
-        let next = at + record_len(r);
-        window = Window { at: next, ..window };
-        n += 1;
+        window.at += record_len(r);
     }
     Ok(s)
 }
@@ -76,20 +72,17 @@ pub fn play_tape<R: Input + Print>(rt: &R, traced: bool) -> io::Result<()> {
     let mut out = [0u8; OUTPUT_LEN];
     let mut reader = rt.reader();
     let mut writer = io::writer(rt);
-    let table = tape_table();
-    let opened = Session::open(table);
-    let fresh = opened.session;
+    let opened = Session::open(tape_table());
     let last = play_records(
         &mut reader,
         &mut writer,
-        fresh,
+        opened.session,
         traced,
         &mut input,
         &mut work,
         &mut reply,
         &mut out,
     )?;
-    let numbers = last.numbers();
-    let n = end_line(numbers, &mut out);
+    let n = end_line(last.numbers(), &mut out);
     flush(&mut writer, &out, n)
 }

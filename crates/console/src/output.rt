@@ -1,4 +1,4 @@
-// The lines on their way to standard output.
+// The lines on their way to standard output. Writer, buffer and length stay apart: the rest of the buffer is lent to a record's lines.
 ghost use Rattle.std.specs.Prelude.{◌≤◌, IfOk, OnErr, length};
 ghost use Rattle.console.specs.declared.output.TheConstants.{FULL};
 
@@ -16,7 +16,7 @@ pub(crate) fn flush<W: Write>(writer: &mut W, out: &[u8], len: usize) -> io::Res
     ensures { OnErr result (len ≤ length out.now) }
 {
     if len <= out.len() {
-        writer.write_all(&out[0..len])?;
+        writer.write_all(&out[..len])?;
     }
     Ok(())
 }

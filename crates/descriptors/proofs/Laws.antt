@@ -1,15 +1,16 @@
 -- The descriptors one after the other, a packet for each result.
 use Prim.Native.Nat.{ℕ, zero, suc, ◌+◌, ◌-◌, ◌*◌, ◌<◌, ◌≤◌}
-use mathlib.Core.Path.{◌≡◌, refl, sym, ap, subst, ◌∙◌}
+use mathlib.Core.Path.{◌≡◌, refl, sym, ap, ◌∙◌}
 use mathlib.Core.List.{List, [], ◌∷◌, ◌++◌}
 use native.Mathlib.Nat.{not-suc-le-zero, le_of_suc-le-suc}
 use native.Mathlib.Omega.{arith}
 use lib.ListN.{length, take, drop, get_or, replicate}
-use lib.Seq.{length-take-le}
+use Rattle.std.proofs.lemmas.List.{take-replicate}
+use lib.Seq.{length-take-le, take_all}
 use Rattle.ground.specs.Lists.{joined}
 use Rattle.ground.specs.Writing.{over, Wrote}
 use Rattle.ground.proofs.Lists.{joined-more, joined_length}
-use Rattle.ground.proofs.Parts.{front_is}
+use Rattle.ground.proofs.Parts.{wrote_none, wrote_over, written_next}
 use Rattle.limits.specs.Limits.{MAX-PACKETS}
 use Rattle.wire.specs.Codes.{DESCRIPTOR-LEN}
 use Rattle.wire.specs.Fields.{u32}
@@ -84,21 +85,33 @@ descriptors_more ks rs i B h e =
     (ap (λ (b : List ℕ). joined descriptor (take i ds) ++ b) (e ∙ ap descriptor (sym (paired_at ks rs i z h)))
     ∙ joined-more descriptor ds i z (omega (arith, paired-length ks rs)))
 
--- those at the front of an array that is lent
-pub wrote_front : (D d all x y : List ℕ) (n count : ℕ) → all ≡ over D d → n ≡ length D → Wrote (take (n - 0) (drop 0 all)) x y count
-    → Wrote D x y count
-wrote_front D d all x y n count e k w =
-    let z : n - 0 ≡ n = omega arith in
-    let p : take (n - 0) all ≡ D = rw z (front_is D d all n (sym k) e) in
-    subst (λ (B : List ℕ). Wrote B x y count) p w
+-- the next one, written behind those that stand in a buffer already
+pub written_more : (ks : List Packet) (rs : List PacketResult) (i : ℕ) (D out ys : List ℕ) (k : Packet) (count : ℕ) → i < length rs
+    → length rs * DESCRIPTOR-LEN ≤ length D → length out ≡ length D → out ≡ over (descriptors_of ks (take i rs)) D → k ≡ packet_in ks i
+    → Wrote (descriptor (described k (result_in rs i))) (take (length out - i * DESCRIPTOR-LEN) (drop (i * DESCRIPTOR-LEN) out)) ys count
+    → take (i * DESCRIPTOR-LEN) out ++ (ys ++ drop (length out - i * DESCRIPTOR-LEN) (drop (i * DESCRIPTOR-LEN) out))
+    ≡ over (descriptors_of ks (take (i + 1) rs)) D
+written_more ks rs i D out ys k count h room l s e w =
+    let d = described k (result_in rs i) in
+    let W = descriptors_of ks (take i rs) in
+    let fits : i * DESCRIPTOR-LEN + length (descriptor d) ≤ length out = rw (descriptor-length d) (omega arith) in
+    let more = descriptors_more ks rs i (descriptor d) h (rw e refl) in
+    rw (← more)
+    (written_next D out W (descriptor d) ys (i * DESCRIPTOR-LEN) (length out) count refl (front_length i ks rs (omega arith)) s fits w)
+
+pub written_each : (ks : List Packet) (rs : List PacketResult) (i : ℕ) (D out : List ℕ) → length rs ≤ i
+    → length rs * DESCRIPTOR-LEN ≤ length D → out ≡ over (descriptors_of ks (take i rs)) D
+    → Wrote (descriptors_of ks rs) D out (length rs * DESCRIPTOR-LEN)
+written_each ks rs i D out h room s =
+    let n = descriptors_length ks rs in
+    wrote_over (descriptors_of ks rs) D out (length rs * DESCRIPTOR-LEN) (omega arith) (rw (take_all i rs h) at s) (sym n)
+
+pub written_none : (ks : List Packet) (rs : List PacketResult) (D : List ℕ) → length D < length rs * DESCRIPTOR-LEN
+    → Wrote (descriptors_of ks rs) D D 0
+written_none ks rs D h = wrote_none (descriptors_of ks rs) D (omega (arith, descriptors_length ks rs))
 
 -- ## A submit that is refused
 
-take_same : (n m : ℕ) (r : PacketResult) → n ≤ m → take n (replicate m r) ≡ replicate n r
-take_same zero m r h = refl
-take_same (suc n) zero r h = absurd (not-suc-le-zero h)
-take_same (suc n) (suc m) r h = ap (λ (rs : List PacketResult). r ∷ rs) (take_same n m r (le_of_suc-le-suc h))
-
 pub refused_front : (count status : ℕ) → count ≤ MAX-PACKETS
     → take count (replicate MAX-PACKETS (packet_result 0 status)) ≡ refused_results count status
-refused_front count status h = take_same count MAX-PACKETS (packet_result 0 status) h
+refused_front count status h = take-replicate count MAX-PACKETS (packet_result 0 status) h

@@ -27,7 +27,7 @@ use Rattle.exports.specs.Devices.{devices_of, no_device}
 use Rattle.exports.specs.declared.device.Table.{Table}
 use Rattle.lookup.specs.Lookup.{device_in, devid_in}
 use Rattle.lookup.proofs.First.{find_first}
-use Rattle.lookup.specs.declared.Found.TheVariants.{At as FoundAt, Nothing}
+use Rattle.std.specs.Prelude.{Option as Maybe, Some, None}
 use Rattle.pending.specs.Changes.{changed, keeps, appends, removes, clears}
 use Rattle.pending.specs.Looks.{look_by}
 use Rattle.pending.specs.Pending.{blank, ticket_of, seqnum_of, tickets, find_by, At, place_by, list_of, Whole}
@@ -35,7 +35,7 @@ use Rattle.pending.specs.declared.change.Change.{Change}
 use Rattle.pending.specs.declared.list.Pending.{Pending}
 use Rattle.pending.specs.declared.look.Look.{Look}
 use Rattle.pending.specs.declared.urb.Urb.{Urb}
-use Rattle.pending.proofs.Finding.{look_none, look_some, look_place}
+use Rattle.pending.proofs.Finding.{look_none, look_some}
 use Rattle.pending.proofs.Laws.{view_length, changed-whole, changed-count, keep_is, append_view, append-count, append_sound, remove_view, remove_count}
 use Rattle.pending.proofs.Laws.{remove_sound, clear_view, clear_sound, tickets_view}
 use Rattle.limits.specs.Limits
@@ -94,7 +94,7 @@ module _ (t : Table) (k : Link) (l : Pending) (m : Message) (e : Event) where
   abbrev s : Sess
   s = during (whole t k l) m
 
-  says : (next : Link) (c : Change) (n : Case) (consumed : ℕ) (reply : Reply) (iso : List Packet) (bytes : List ℕ)
+  says : (next : Link) (c : Change) (n : Case) (consumed : ℕ) (reply : Maybe Reply) (iso : List Packet) (bytes : List ℕ)
       → event_of n c.urb.setup c.urb.iso (tickets_dropped l c) ≡ done e → c.urb ≡ urb_beside (done e)
       → tickets_dropped l c ≡ tickets_of (dropped_by (done e)) → bytes ≡ reply_to s e
       → view_of_parts (whole t next (changed l c)) ≡ after s e → next.phase ≡ (after s e).link.phase → (Clean l → Clean (changed l c))
@@ -342,7 +342,7 @@ unlinked_says t k l h consumed a w b = at (find_by seqnum_of q (list_of l)) refl
     q : ℕ
     q = unlink_seqnum h
 
-    look : Look
+    look : Maybe Look
     look = look_by seqnum_of q (list_of l)
 
     at : (o : Option Urb) → find_by seqnum_of q (list_of l) ≡ o → let r = unlinked_plan k l.count h look consumed in
@@ -350,15 +350,11 @@ unlinked_says t k l h consumed a w b = at (find_by seqnum_of q (list_of l)) refl
     at none e = rw (look_none seqnum_of q (list_of l) e) (missed_says t k l h consumed a w)
     at (some u) e =
         let f = look_some seqnum_of q (list_of l) u e in
-        let p = look_place seqnum_of q (list_of l) f.0 in
-        rw (f.0, ← f.1) (removed_says t k l h consumed a w look p.0 p.1 b)
+        rw f.3 (removed_says t k l h consumed a w (record { place = f.0; ticket = ticket_of u; transfer = u.transfer; iso = u.iso }) f.1 f.2 b)
 
-pub unlinked_padded : (k : Link) (n : ℕ) (h : Header) (look : Look) (consumed : ℕ) → Padded (unlinked_plan k n h look consumed).link.progress
-unlinked_padded k n h look consumed = at look.found
-  where
-    at : (b : Bool) → Padded (cond b (removed_plan k n h look consumed) (missed_plan k n h consumed)).link.progress
-    at true = none-padded
-    at false = none-padded
+pub unlinked_padded : (k : Link) (n : ℕ) (h : Header) (look : Maybe Look) (consumed : ℕ) → Padded (unlinked_plan k n h look consumed).link.progress
+unlinked_padded k n h None consumed = none-padded
+unlinked_padded k n h (Some look) consumed = none-padded
 
 -- ## A request
 
@@ -375,7 +371,7 @@ module _ (t : Table) (k : Link) (l : Pending) (m : Message) (consumed : ℕ) (c 
       (rest_view Limits.CLOSED k.devid ∙ view_shut t k.devid k.counts l)
       refl (keep_clean l)
 
-  pub unknown_says : looked_up (during (whole t k l) m) ≡ Nothing → let r = unknown_plan k l.count consumed in
+  pub unknown_says : looked_up (during (whole t k l) m) ≡ None → let r = unknown_plan k l.count consumed in
       Says (request_bytes t r.reply) r.plan t k l m consumed (import 1)
   unfolding reply_to pick
   unknown_says f =
@@ -384,7 +380,7 @@ module _ (t : Table) (k : Link) (l : Pending) (m : Message) (consumed : ℕ) (c 
       refl (keep_clean l)
 
 -- the device that is found stands at its place in the array
-found_device : (t : Table) (s : Sess) (i : ℕ) → s.table ≡ t → length t.devices ≡ Limits.MAX-DEVICES → looked_up s ≡ FoundAt i
+found_device : (t : Table) (s : Sess) (i : ℕ) → s.table ≡ t → length t.devices ≡ Limits.MAX-DEVICES → looked_up s ≡ Some i
     → device_in t i ≡ get_or (devices_of t) i no_device
 unfolding looked_up
 found_device t s i e w f =
@@ -394,7 +390,7 @@ found_device t s i e w f =
     rw (lt-ltb i Limits.MAX-DEVICES (omega arith)) (sym (get_or-take t.count t.devices i no_device (omega arith)))
 
 pub import_says : (t : Table) (k : Link) (l : Pending) (m : Message) (i consumed : ℕ) → counts_fit k.counts l.count ≡ true
-    → looked_up (during (whole t k l) m) ≡ FoundAt i → length t.devices ≡ Limits.MAX-DEVICES → let r = import_plan k l.count i (devid_in t i) consumed in
+    → looked_up (during (whole t k l) m) ≡ Some i → length t.devices ≡ Limits.MAX-DEVICES → let r = import_plan k l.count i (devid_in t i) consumed in
     Says (request_bytes t r.reply) r.plan t k l m consumed (import 0)
 unfolding reply_to pick
 import_says t k l m i consumed c f w =

@@ -1,34 +1,27 @@
 -- The cases of the code's answers, as the definitions have them.
-use Rattle.std.specs.Prelude.{ℕ, Bool, true, false, List, [], length, take}
+use Rattle.std.specs.Prelude.{ℕ, Bool, true, false, Option as Maybe, Some, None, Result, Ok, Err, ⊤, List, [], length, take}
 use Rattle.std.proofs.Math.Option.{Option, none, some}
 use Rattle.packets.specs.declared.packet.Packet.{Packet}
 use Rattle.pending.specs.Pending.{blank, zero_padded}
 use Rattle.pending.specs.declared.urb.Urb.{Urb}
 use Rattle.pending.specs.declared.list.Tickets.{Tickets}
-use Rattle.limits.specs.Limits
 use Rattle.model.specs.Answers.{Outcome, refused, done, Returned, Event, hungry, list, import, submit, answer, unlink, break}
-use Rattle.events.specs.declared.answer.Opening.{Opening}
-use Rattle.events.specs.declared.answer.Opening.TheVariants.{Ready, Refused as OpeningRefused}
-use Rattle.events.specs.declared.answer.Removed.{Removed}
-use Rattle.events.specs.declared.answer.Removed.TheVariants.{Ticket, Nothing}
 use Rattle.events.specs.declared.answer.Event.{Event as Case}
 use Rattle.events.specs.declared.answer.Event.TheVariants.{Hungry, List as Listed, Import, Submit, Answer as Answered, Unlink, Break, Refused}
-use Rattle.events.specs.declared.answer.Completion.{Completion}
-use Rattle.events.specs.declared.answer.Completion.TheVariants.{Return, Refused as CompletionRefused}
-use Rattle.events.specs.declared.answer.Closing.{Closing}
-use Rattle.events.specs.declared.answer.Closing.TheVariants.{End, Refused as ClosingRefused}
-use Rattle.events.specs.declared.answer.Inquiry.{Inquiry}
-use Rattle.events.specs.declared.answer.Inquiry.TheVariants.{Listed as StaleListed, Refused as InquiryRefused}
+use Rattle.events.specs.declared.answer.Returned.{Returned as Handed}
+use Rattle.verdicts.specs.Numbers.{refusal_number}
+use Rattle.verdicts.specs.declared.verdict.Refusal.{Refusal}
+use Rattle.verdicts.specs.declared.verdict.Refusal.TheVariants.{BadTable}
 
--- The number of a table that breaks a rule.
-abbrev pub open_answer : Bool → Opening
-open_answer true = Ready
-open_answer false = OpeningRefused Limits.BAD-TABLE
+-- A table that breaks a rule is refused.
+abbrev pub open_answer : Bool → Result ⊤ Refusal
+open_answer true = Ok tt
+open_answer false = Err BadTable
 
 -- The event that each case stands for; the setup bytes, the packets and the dropped tickets stand beside it.
-abbrev pub removed_of : Removed → Option ℕ
-removed_of (Ticket t) = some t
-removed_of Nothing = none
+abbrev pub removed_of : Maybe ℕ → Option ℕ
+removed_of None = none
+removed_of (Some t) = some t
 
 abbrev pub event_of : Case → (setup : List ℕ) → List Packet → Tickets → Outcome Event
 event_of Hungry setup iso ts = done hungry
@@ -38,19 +31,19 @@ event_of (Submit t a u) setup iso ts = done (submit (record { ticket = t; transf
 event_of (Answered q st) setup iso ts = done (answer q st)
 event_of (Unlink q st r) setup iso ts = done (unlink q st (removed_of r))
 event_of (Break f) setup iso ts = done (break f (take ts.count ts.tickets))
-event_of (Refused n) setup iso ts = refused n
+event_of (Refused r) setup iso ts = refused (refusal_number r)
 
-abbrev pub completion_of : Completion → Outcome Returned
-completion_of (Return wire status) = done (record { wire = wire; status = status })
-completion_of (CompletionRefused n) = refused n
+abbrev pub completion_of : Result Handed Refusal → Outcome Returned
+completion_of (Ok r) = done (record { wire = r.length; status = r.status })
+completion_of (Err r) = refused (refusal_number r)
 
-abbrev pub closing_of : Closing → Tickets → Outcome (List ℕ)
-closing_of End ts = done (take ts.count ts.tickets)
-closing_of (ClosingRefused n) ts = refused n
+-- A close drops tickets, an inquiry lists them: they stand beside.
+abbrev pub closing_of : Result ⊤ Refusal → Tickets → Outcome (List ℕ)
+closing_of (Ok u) ts = done (take ts.count ts.tickets)
+closing_of (Err r) ts = refused (refusal_number r)
 
-abbrev pub inquiry_of : Inquiry → Tickets → Outcome (List ℕ)
-inquiry_of StaleListed ts = done (take ts.count ts.tickets)
-inquiry_of (InquiryRefused n) ts = refused n
+abbrev pub inquiry_of : Result ⊤ Refusal → Tickets → Outcome (List ℕ)
+inquiry_of = closing_of
 
 -- What stands beside an answer: an accepted submit's record has it; a blank one for any other event.
 abbrev pub urb_beside : Outcome Event → Urb

@@ -1,28 +1,16 @@
-// What the acts of a session answer. Numbers go inside an event, arrays beside it. What each case stands for is `event_of` and its
-// like in specs/Answers.antt.
+// What the acts of a session answer: a feed an event, a completion what is returned, an opening, a closing and an inquiry nothing; or
+// they are refused. Numbers go inside an event, arrays beside it. What each case stands for is `event_of` and its like in
+// specs/Answers.antt.
 use limits::MAX_PACKETS;
 use messages::message::Transfer;
 use packets::packet::Packet;
-use verdicts::verdict::Fault;
+use verdicts::verdict::{Fault, Refusal};
 use wire::codes::SETUP_LEN;
 
-#[derive(Clone, Copy)]
-pub enum Opening {
-    Ready,
-    Refused(u32),
-}
-
-// The ticket that an unlink removed, if it did.
-#[derive(Clone, Copy)]
-pub enum Removed {
-    Ticket(u64),
-    Nothing,
-}
-
-// Hungry is the rules' word for a feed that ends within a message. An import has its status; an accepted submit its ticket, its arrival and
-// its transfer (the setup bytes and the packets stand beside); an answer to a refused submit its seqnum and status; an unlink its own seqnum, its
-// status and the ticket removed. A break is the rules' word for a fault in the stream, which ends the session. A refusal has its
-// number.
+// Hungry is the rules' word for a feed that ends within a message. An import has its status, the 0 or 1 of its reply on the wire; an
+// accepted submit its ticket, its arrival and its transfer (the setup bytes and the packets stand beside); an answer to a refused submit
+// its seqnum and status; an unlink its own seqnum, its status and the ticket removed, if it did. A break is the rules' word for a fault in
+// the stream, which ends the session.
 #[derive(Clone, Copy)]
 pub enum Event {
     Hungry,
@@ -30,9 +18,9 @@ pub enum Event {
     Import(u32),
     Submit(u64, u32, Transfer),
     Answer(u32, u32),
-    Unlink(u32, u32, Removed),
+    Unlink(u32, u32, Option<u64>),
     Break(Fault),
-    Refused(u32),
+    Refused(Refusal),
 }
 
 // A feed's answer: the event, the bytes consumed of the piece, the length of the reply; an accepted submit's setup bytes and packets.
@@ -45,22 +33,9 @@ pub struct Answer {
     pub iso: [Packet; MAX_PACKETS],
 }
 
-// A completion is accepted, with the length of the reply on the wire and the status sent, or refused.
+// What a URB is returned with: the length of the reply on the wire, and the status sent.
 #[derive(Clone, Copy)]
-pub enum Completion {
-    Return(u64, u32),
-    Refused(u32),
-}
-
-#[derive(Clone, Copy)]
-pub enum Closing {
-    End,
-    Refused(u32),
-}
-
-// An inquiry lists the stale tickets beside it, or is refused.
-#[derive(Clone, Copy)]
-pub enum Inquiry {
-    Listed,
-    Refused(u32),
+pub struct Returned {
+    pub length: u64,
+    pub status: u32,
 }

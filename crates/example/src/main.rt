@@ -3,8 +3,8 @@
 #![tactic(auto)]
 
 use rimemaple::{
-    BUSID_LEN, Completion, DESCRIPTOR_LEN, Event, HEADER_LEN, HEADER_ROOM, Inquiry, MAX_PACKETS,
-    OP_LEN, PacketResult, REPLY_LEN, Removed, Results, Session, WORK_LEN, part,
+    BUSID_LEN, DESCRIPTOR_LEN, Event, HEADER_LEN, HEADER_ROOM, MAX_PACKETS, OP_LEN, PacketResult,
+    REPLY_LEN, Refusal, Results, Session, WORK_LEN, part,
 };
 use std::io;
 use std::io::{ErrorKind, Read};
@@ -25,19 +25,18 @@ fn say(rt: &impl Print, words: &str, number: u64) -> io::Result<()> {
     println!(rt; "{words}{number}")
 }
 
+// A refusal, by its number.
+fn say_refused(rt: &impl Print, act: &str, refusal: Refusal) -> io::Result<()> {
+    let number = u32::from(refusal);
+    println!(rt; "{act} is refused with {number}")
+}
+
 // The next bytes of the stream; where it ends early, the others stay as they are.
 fn receive(rt: &impl Input, bytes: &mut [u8]) -> io::Result<()> {
     let mut reader = rt.reader();
     match reader.read_exact(bytes) {
         Err(e) if e.kind() == ErrorKind::UnexpectedEof => Ok(()),
         result => result,
-    }
-}
-
-fn cancel(rt: &impl Print, removed: Removed) -> io::Result<()> {
-    match removed {
-        Removed::Ticket(ticket) => say(rt, "the device cancels ticket ", ticket),
-        Removed::Nothing => Ok(()),
     }
 }
 
@@ -53,12 +52,11 @@ fn feed(
 ) -> io::Result<Session> {
     let fed = s.feed(piece, work, reply, time);
     let answer = fed.answer;
-    let event = answer.event;
     say(rt, "bytes to the client: ", answer.length as u64)?;
-    match event {
+    match answer.event {
         Event::Submit(ticket, _, _) => say(rt, "the device starts ticket ", ticket)?,
-        Event::Unlink(_, _, removed) => cancel(rt, removed)?,
-        Event::Break(fault) => say(rt, "the session broke with ", fault.number as u64)?,
+        Event::Unlink(_, _, Some(ticket)) => say(rt, "the device cancels ticket ", ticket)?,
+        Event::Break(fault) => say(rt, "the session broke with ", u32::from(fault.kind) as u64)?,
         _ => (),
     }
     Ok(fed.session)
@@ -79,10 +77,9 @@ fn feed_next(
 // Which requests have waited too long. The session stays as it is.
 fn inquire(rt: &impl Print, s: Session, time: u32) -> io::Result<()> {
     let inquired = s.stale(time, PATIENCE);
-    let answer = inquired.answer;
-    match answer {
-        Inquiry::Listed => say(rt, "stale requests: ", inquired.stale.count as u64),
-        Inquiry::Refused(number) => say(rt, "the inquiry is refused with ", number as u64),
+    match inquired.answer {
+        Ok(()) => say(rt, "stale requests: ", inquired.stale.count as u64),
+        Err(refusal) => say_refused(rt, "the inquiry", refusal),
     }
 }
 
@@ -96,14 +93,13 @@ fn complete(
     header: &mut [u8],
 ) -> io::Result<Session> {
     let done = s.complete(ticket, 0, PICTURE_LEN as u32, picture, header);
-    let answer = done.answer;
-    match answer {
-        Completion::Return(length, _) => {
+    match done.answer {
+        Ok(returned) => {
             let first = part(header, picture, PICTURE_LEN, 0, 0, SOCKET_TAKES);
-            say(rt, "bytes to the client: ", length)?;
+            say(rt, "bytes to the client: ", returned.length)?;
             say(rt, "in the first part: ", first.len() as u64)?
         }
-        Completion::Refused(number) => say(rt, "the completion is refused with ", number as u64)?,
+        Err(refusal) => say_refused(rt, "the completion", refusal)?,
     }
     Ok(done.session)
 }
@@ -126,15 +122,14 @@ fn complete_stream(
         count: PACKETS,
     };
     let done = s.complete_iso(ticket, 0, PICTURE_LEN as u32, results, data, header);
-    let answer = done.answer;
-    match answer {
-        Completion::Return(length, _) => {
+    match done.answer {
+        Ok(returned) => {
             let sent = HEADER_LEN + PICTURE_LEN;
             let last = part(header, data, PICTURE_LEN, PACKETS, sent, SOCKET_TAKES);
-            say(rt, "bytes to the client: ", length)?;
+            say(rt, "bytes to the client: ", returned.length)?;
             say(rt, "in the last part: ", last.len() as u64)?
         }
-        Completion::Refused(number) => say(rt, "the completion is refused with ", number as u64)?,
+        Err(refusal) => say_refused(rt, "the completion", refusal)?,
     }
     Ok(done.session)
 }

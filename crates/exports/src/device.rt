@@ -1,4 +1,7 @@
 // What the box exports: a table of devices, each with its interfaces.
+ghost use Rattle.std.specs.Prelude.{◌≡◌};
+ghost use Rattle.exports.specs.Devices.{devices_of};
+
 use limits::{MAX_DEVICES, MAX_INTERFACES, PATH_LEN};
 use wire::codes::BUSID_LEN;
 
@@ -31,10 +34,20 @@ pub struct Device {
     pub interfaces: [Interface; MAX_INTERFACES],
 }
 
-// The export table: its first count devices. A count above MAX_DEVICES breaks the table's rules.
+// The export table: its first count devices. A count above MAX_DEVICES breaks the table's rules. (An array and a count: C hands it in.)
 #[repr(C)]
 #[derive(Clone, Copy)]
 pub struct Table {
     pub devices: [Device; MAX_DEVICES],
     pub count: usize,
+}
+
+impl Table {
+    // The devices that count; all that there are, where the count is above MAX_DEVICES.
+    pub fn listed(&self) -> &[Device]
+        ensures { result.now ≡ devices_of self.now }
+    {
+        let n = self.count.min(MAX_DEVICES);
+        &self.devices[..n]
+    }
 }

@@ -1,5 +1,5 @@
 -- A feed, by the verdict on the session's phase and the buffers.
-use Prim.Native.Nat.{ℕ}
+use Prim.Native.Nat.{ℕ, ◌≤◌}
 use native.Mathlib.Omega.{arith}
 use native.Mathlib.Nat.{zero-add}
 use mathlib.Core.Path.{◌≡◌, refl, sym, ap, ◌∙◌}
@@ -15,6 +15,9 @@ use Rattle.pending.proofs.Laws.{keep_is}
 use Rattle.limits.specs.Limits
 use Rattle.ground.specs.Tests.{Test, first, decide, by_first}
 use Rattle.verdicts.specs.Verdicts
+use Rattle.verdicts.specs.Numbers.{refusal_number}
+use Rattle.verdicts.specs.declared.verdict.Refusal.{Refusal}
+use Rattle.verdicts.proofs.Deciding.{first_numbered}
 use Rattle.verdicts.proofs.Good.{feed_clear}
 use Rattle.model.specs.State.{Sess}
 use Rattle.model.specs.Acts.{Buffers, feed_tests_of, feed_bytes, done_feed, refused_feed, feed_of}
@@ -75,34 +78,44 @@ module _ (t : Table) (k : Link) (l : Pending) (piece : List ℕ) (b : Buffers) (
   abbrev s : Parts
   s = whole t k l
 
-  abbrev tests : List (Test ℕ)
-  tests = Verdicts.feed_tests closed (length b.work) (length b.reply)
+  abbrev tests : List (Test Refusal)
+  tests = Verdicts.feed_refusals closed (length b.work) (length b.reply)
 
-  tests_are : first tests ≡ first (feed_tests_of (view_of_parts s) b)
-  tests_are = rw e
+  -- the definitions have their numbers
+  tests_are : decide (first tests) (λ r. some (refusal_number r)) none ≡ first (feed_tests_of (view_of_parts s) b)
+  tests_are = sym (first_numbered refusal_number tests) ∙ rw e
 
   kept : changed l (keeps l.count) ≡ l
   kept = keep_is l arrays.2
 
   -- a refusal says nothing, and leaves all as it was
-  composed_refused : (n : ℕ) → first tests ≡ some n → Composed (refused_plan k l.count n) [] t k l piece b time
-  composed_refused n f =
+  composed_refused : (r : Refusal) → first tests ≡ some r → Composed (refused_plan k l.count r) [] t k l piece b time
+  unfolding decide
+  composed_refused r f =
       record {
         inside = omega arith;
         fits = omega arith;
         takes = λ _. omega arith;
-        fed = rw kept (sym (feed-refused (view_of_parts s) b piece time n (sym tests_are ∙ f)));
+        fed = rw kept (sym (feed-refused (view_of_parts s) b piece time (refusal_number r) (sym tests_are ∙ rw f)));
         same = λ _ _. (refl, refl);
         tidy = λ h. rw kept h;
       }
 
   module _ (f : first tests ≡ none) where
+    numbers : first (feed_tests_of (view_of_parts s) b) ≡ none
+    unfolding decide
+    numbers = sym tests_are ∙ rw f
+
+    room : (closed ≡ false) × (Limits.WORK-LEN ≤ length b.work) × (Limits.REPLY-LEN ≤ length b.reply)
+    unfolding decide
+    room = feed_clear closed (length b.work) (length b.reply) (first_numbered refusal_number tests ∙ rw f)
+
     -- it isn't closed, and its parts fit together
     lives : Live s
-    lives = live s (sym e ∙ (feed_clear closed (length b.work) (length b.reply) f).0)
+    lives = live s (sym e ∙ room.0)
 
     -- what is said of bytes isn't a refusal
-    never : (bytes : List ℕ) (r : Plan) (n : ℕ) → Feeds bytes r t k l 0 k.progress piece time → r.event ≡ Refused n → ⊥
+    never : (bytes : List ℕ) (r : Plan) (n : Refusal) → Feeds bytes r t k l 0 k.progress piece time → r.event ≡ Refused n → ⊥
     unfolding fed_from
     never bytes r n y z =
         let u = r.change.urb in
@@ -112,14 +125,13 @@ module _ (t : Table) (k : Link) (l : Pending) (piece : List ℕ) (b : Buffers) (
 
     composed_feed : (bytes : List ℕ) (r : Plan) → Feeds bytes r t k l 0 k.progress piece time → Composed r bytes t k l piece b time
     composed_feed bytes r y =
-        let c = feed_clear closed (length b.work) (length b.reply) f in
         record {
           inside = y.inside;
-          fits = omega (arith, y.room, c.1);
-          takes = λ h. omega (arith, c.2);
+          fits = omega (arith, y.room, room.1);
+          takes = λ h. omega (arith, room.2);
           fed =
               y.fed b ∙ ap (λ (x : Sess). fed_from time 0 x b piece) (sym (live_view s lives))
-              ∙ sym (feed_goes (view_of_parts s) b piece time (sym tests_are ∙ f));
+              ∙ sym (feed_goes (view_of_parts s) b piece time numbers);
           same = λ n z. absurd (never bytes r n y z);
           tidy = λ h. y.tidy h.list h.head;
         }
@@ -132,7 +144,7 @@ message_composed t k l piece b time a w =
     let closed = not (eqb (phase_of k l.count) Limits.ATTACHED) in
     let e = closed_away k l.count w in
     by_first (λ (r : Plan). Composed r (reply_bytes r.iso r.reply) t k l piece b time)
-    (first (Verdicts.feed_tests closed (length b.work) (length b.reply)))
+    (first (Verdicts.feed_refusals closed (length b.work) (length b.reply)))
     (composed_refused t k l piece b time a closed e)
     (λ f.
     let h = lives t k l piece b time a closed e f in
@@ -145,7 +157,7 @@ request_composed t k l piece b time a ds w =
     let closed = not (eqb (phase_of k l.count) Limits.WAITING) in
     let e = closed-waits k l.count w in
     by_first (λ (r : RequestPlan). Composed r.plan (request_bytes t r.reply) t k l piece b time)
-    (first (Verdicts.feed_tests closed (length b.work) (length b.reply)))
+    (first (Verdicts.feed_refusals closed (length b.work) (length b.reply)))
     (composed_refused t k l piece b time a closed e)
     (λ f.
     let h = lives t k l piece b time a closed e f in

@@ -27,9 +27,6 @@ put-behind n l B ys off count e h w =
 pub part-rest : (xs : List ℕ) (at : ℕ) → take (length xs - at) (drop at xs) ≡ drop at xs
 part-rest xs at = take_all (length xs - at) (drop at xs) (rw length-drop (omega arith))
 
-pub part_front : (n : ℕ) (xs : List ℕ) → take (n - 0) xs ≡ take n xs
-part_front n xs = let e : n - 0 ≡ n = omega arith in ap (λ (m : ℕ). take m xs) e
-
 pub part_need : (at need : ℕ) (xs : List ℕ) → take (at + need - at) (drop at xs) ≡ take need (drop at xs)
 part_need at need xs = let e : at + need - at ≡ need = omega arith in ap (λ (m : ℕ). take m (drop at xs)) e
 

@@ -13,10 +13,11 @@ use Rattle.wire.specs.Codes
 use Rattle.messages.specs.Messages.{data_len, body_len, unlink_seqnum}
 use Rattle.messages.specs.declared.message.Header.{Header}
 use Rattle.exports.specs.declared.device.Table.{Table}
-use Rattle.pending.specs.Looks.{look_by, look_for}
+use Rattle.std.specs.Prelude.{Option as Maybe, Some, None as NoKey, is_some}
+use Rattle.pending.specs.Looks.{look_by}
 use Rattle.pending.specs.Pending.{seqnum_of, find_by, found, list_of, Whole}
 use Rattle.pending.specs.declared.list.Pending.{Pending}
-use Rattle.pending.specs.declared.look.Key.TheVariants.{Nothing, Seqnum}
+use Rattle.pending.specs.declared.look.Key.TheVariants.{Seqnum}
 use Rattle.pending.specs.declared.look.Look.{Look}
 use Rattle.pending.specs.declared.urb.Urb.{Urb}
 use Rattle.pending.proofs.Finding.{look_found}
@@ -41,7 +42,7 @@ use Rattle.events.specs.Plans.{hungry_plan, broken_plan, submitted_plan, unlinke
 use Rattle.events.specs.declared.plan.Plan.{Plan}
 use Rattle.events.proofs.Saying.{result_at, hungry_says, broken_says, broken-padded, submitted_says, submitted_alike, submitted-padded, unlinked_says}
 use Rattle.events.proofs.Saying.{unlinked_padded}
-use Rattle.feeding.specs.Asking.{grown, read_from, key_for, ask_of}
+use Rattle.feeding.specs.Asking.{grown, read_from, key_for, ask_of, look_asked}
 use Rattle.feeding.specs.Planning.{further_on, body_plan, submit_plan, header_plan, attached_plan}
 use Rattle.feeding.specs.declared.ask.Asked.{Asked}
 use Rattle.feeding.proofs.Stages.{Calm, fed_from, Makes, unplaced, placed_at, makes_body, part_length, part-waits, part_says, part_goes_on}
@@ -53,10 +54,10 @@ use Rattle.feeding.proofs.Pieces.{Feeds, feeds, feeds_body, feeds_on}
 -- ## A header's tests
 
 -- what was looked up serves them: only of a submit do they ask whether a seqnum is pending
-header-tests : (h : Header) (devid : ℕ) (us : List Urb) → header_tests_of h devid us ≡ Verdicts.header_tests h devid (look_for us (key_for h)).found
+header-tests : (h : Header) (devid : ℕ) (us : List Urb) → header_tests_of h devid us ≡ Verdicts.header_tests h devid (is_some (look_asked us (key_for h)))
 header-tests h devid us = at (eqb h.command Codes.CMD-SUBMIT) refl
   where
-    at : (c : Bool) → eqb h.command Codes.CMD-SUBMIT ≡ c → header_tests_of h devid us ≡ Verdicts.header_tests h devid (look_for us (key_for h)).found
+    at : (c : Bool) → eqb h.command Codes.CMD-SUBMIT ≡ c → header_tests_of h devid us ≡ Verdicts.header_tests h devid (is_some (look_asked us (key_for h)))
     at true e = rw (e, look_found seqnum_of h.transfer.seqnum us)
     at false e = rw e
 
@@ -67,7 +68,7 @@ module _ (h : Header) (devid : ℕ) (us : List Urb) (f : first (header_tests_of 
       (header_match h devid taken (taken ≡ true) (ltb h.dirty Codes.HEADER-LEN ≡ true) iff_refl iff_refl).1 f
 
   -- what passed and is no submit is an unlink, and asks for the seqnum that it names
-  unlink_key : (h.command ≡ Codes.CMD-SUBMIT → ⊥) → key_for h ≡ Seqnum (unlink_seqnum h)
+  unlink_key : (h.command ≡ Codes.CMD-SUBMIT → ⊥) → key_for h ≡ Some (Seqnum (unlink_seqnum h))
   unlink_key n =
       let e = second h.command Codes.CMD-SUBMIT Codes.CMD-UNLINK passed.0 n in
       rw (ne_eqb h.command Codes.CMD-SUBMIT n, eq-eqb h.command Codes.CMD-UNLINK e)
@@ -86,13 +87,13 @@ module _ (k : Link) (piece : List ℕ) where
   abbrev missing : ℕ
   missing = Codes.HEADER-LEN - k.progress.filled
 
-  ask_nothing : Codes.HEADER-LEN ≤ k.progress.filled → ask_of k piece ≡ record { progress = k.progress; consumed = 0; read = false; key = Nothing }
+  ask_nothing : Codes.HEADER-LEN ≤ k.progress.filled → ask_of k piece ≡ record { progress = k.progress; consumed = 0; read = false; key = NoKey }
   unfolding ask_of
   ask_nothing h = rw (le-leb Codes.HEADER-LEN k.progress.filled h)
 
   module _ (h : k.progress.filled < Codes.HEADER-LEN) where
     ask_part : length piece < missing
-        → ask_of k piece ≡ record { progress = grown k.progress piece; consumed = length piece; read = false; key = Nothing }
+        → ask_of k piece ≡ record { progress = grown k.progress piece; consumed = length piece; read = false; key = NoKey }
     unfolding ask_of
     ask_part l = rw (lt-leb Codes.HEADER-LEN k.progress.filled h, lt-ltb (length piece) missing l)
 
@@ -218,8 +219,8 @@ module _ (t : Table) (k : Link) (l : Pending) (a : Attached (whole t k l)) (v : 
       abbrev d : Sess
       d = during s (headed q.header 0 [])
 
-      abbrev look : Look
-      look = look_for (list_of l) (key_for q.header)
+      abbrev look : Maybe Look
+      look = look_asked (list_of l) (key_for q.header)
 
       filled : p.filled + length xs ≡ Codes.HEADER-LEN
       filled = omega (arith, part_length piece 0 end (omega arith))
@@ -275,7 +276,7 @@ module _ (t : Table) (k : Link) (l : Pending) (a : Attached (whole t k l)) (v : 
       header-feeds : Fed 0 p (header_plan k l.count q look end piece time)
       header-feeds =
           let e = ap first (header-tests q.header k.devid (list_of l)) in
-          by_first (Fed 0 p) (first (Verdicts.header_tests q.header k.devid look.found))
+          by_first (Fed 0 p) (first (Verdicts.header_tests q.header k.devid (is_some look)))
           (λ f y. breaks-feeds f (e ∙ y)) (λ y. by (e ∙ y) (eqb q.header.command Codes.CMD-SUBMIT) refl)
         where
           by : first (header_tests_of q.header k.devid (list_of l)) ≡ none → (c : Bool) → eqb q.header.command Codes.CMD-SUBMIT ≡ c
@@ -286,7 +287,7 @@ module _ (t : Table) (k : Link) (l : Pending) (a : Attached (whole t k l)) (v : 
     -- ### The whole piece
 
     abbrev Planned : Asked → Type 0
-    Planned o = Fed 0 p (attached_plan k l.count o (look_for (list_of l) o.key) piece time)
+    Planned o = Fed 0 p (attached_plan k l.count o (look_asked (list_of l) o.key) piece time)
 
     pub attached-feeds : length p.descriptors ≡ Limits.DESCRIPTORS-LEN → attached_fits p ≡ true → Planned (ask_of k piece)
     attached-feeds places f = by (ltb p.filled Codes.HEADER-LEN) refl (ltb (length piece) (missing k piece)) refl

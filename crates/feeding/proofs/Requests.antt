@@ -13,8 +13,7 @@ use Rattle.messages.specs.Messages.{request_of, busid_of}
 use Rattle.messages.specs.declared.request.Request.{Request}
 use Rattle.exports.specs.declared.device.Table.{Table}
 use Rattle.lookup.specs.Lookup.{find_in, devid_in}
-use Rattle.lookup.specs.declared.Found.{Found}
-use Rattle.lookup.specs.declared.Found.TheVariants.{At, Nothing}
+use Rattle.std.specs.Prelude.{Option as Maybe, Some, None}
 use Rattle.pending.specs.Pending.{Whole}
 use Rattle.pending.specs.declared.list.Pending.{Pending}
 use Rattle.limits.specs.Limits
@@ -102,11 +101,11 @@ module _ (t : Table) (k : Link) (l : Pending) (w : k.phase ≡ Limits.WAITING) (
       lookup_feeds : Fed at p (lookup_plan t k l.count named.head (at + need))
       lookup_feeds = by (find_in t (busid_of named.head)) found judge_40
         where
-          by : (f : Found) → looked_up naming ≡ f → judge time naming ≡ imports f → Fed at p (imported_plan t k l.count f (at + need))
-          by (At i) g j =
+          by : (f : Maybe ℕ) → looked_up naming ≡ f → judge time naming ≡ imports f → Fed at p (imported_plan t k l.count f (at + need))
+          by (Some i) g j =
               feeds t k l at p piece time (import_says t k l (message_of named) i (at + need) c g ds)
               (λ _. import-padded k l.count i (devid_in t i) (at + need)) (named_says (import 0) j refl)
-          by Nothing g j =
+          by None g j =
               feeds t k l at p piece time (unknown_says t k l (message_of named) (at + need) c g)
               (λ _. unknown_padded k l.count (at + need)) (named_says (import 1) j refl)
 

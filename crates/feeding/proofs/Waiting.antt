@@ -14,7 +14,7 @@ use Rattle.messages.specs.Messages.{request_of}
 use Rattle.messages.specs.declared.request.Request.{Request}
 use Rattle.exports.specs.declared.device.Table.{Table}
 use Rattle.ground.specs.Tests.{first, decide}
-use Rattle.verdicts.specs.Verdicts.{feed_tests, request_tests}
+use Rattle.verdicts.specs.Verdicts.{feed_refusals, request_tests}
 use Rattle.verdicts.specs.declared.verdict.Fault.{Fault}
 use Rattle.links.specs.Links.{counts_fit, progress_fits, fits, phase_of}
 use Rattle.links.specs.declared.link.Link.{Link}
@@ -24,14 +24,13 @@ use Rattle.events.specs.Plans.{broken_plan, silent_plan, list_plan}
 use Rattle.events.specs.declared.plan.RequestPlan.{RequestPlan}
 use Rattle.feeding.specs.Asking.{grown}
 use Rattle.feeding.specs.Planning.{busid_plan, head_plan}
-use Rattle.feeding.proofs.Lending.{part_front}
 
-first_open : (c : Bool) (work reply : ℕ) → first (feed_tests (not c) work reply) ≡ none → c ≡ true
+first_open : (c : Bool) (work reply : ℕ) → first (feed_refusals (not c) work reply) ≡ none → c ≡ true
 first_open true work reply h = refl
 first_open false work reply h = cc
 
 -- a feed that isn't refused for the phase
-pub waits : (k : Link) (n work reply : ℕ) → first (feed_tests (not (eqb (phase_of k n) Limits.WAITING)) work reply) ≡ none
+pub waits : (k : Link) (n work reply : ℕ) → first (feed_refusals (not (eqb (phase_of k n) Limits.WAITING)) work reply) ≡ none
     → k.progress.filled < Codes.OP-LEN + Codes.BUSID-LEN
 unfolding phase_of
 waits k n work reply h = at (fits k n) refl (eqb-true _ _ (first_open (eqb (phase_of k n) Limits.WAITING) work reply h))
@@ -57,13 +56,12 @@ module _ (t : Table) (k : Link) (n : ℕ) (piece : List ℕ) where
       (cond (eqb r.code Codes.OP-REQ-DEVLIST) (list_plan k n need) (busid_plan t k n q piece need))
 
   -- the part that the code lends is the one that the plan speaks of
-  module _ (q : Progress) (r : Request) (e : q ≡ grown k.progress (take (need - 0) piece)) (f : r ≡ request_of q.head) (l : need ≤ length piece) where
+  module _ (q : Progress) (r : Request) (e : q ≡ grown k.progress (take need piece)) (f : r ≡ request_of q.head) (l : need ≤ length piece) where
     head_is : headed q r ≡ head_plan t k n piece
     unfolding headed
     head_is =
-        let h : q ≡ grown k.progress (take need piece) = e ∙ ap (grown k.progress) (part_front need piece) in
-        let g = f ∙ ap (λ (z : Progress). request_of z.head) h in
-        (λ i. headed (h i) (g i)) ∙ sym (rw (le-ltb (length piece) need l))
+        let g = f ∙ ap (λ (z : Progress). request_of z.head) e in
+        (λ i. headed (e i) (g i)) ∙ sym (rw (le-ltb (length piece) need l))
 
     pub head-breaks : (x : Fault) → first (request_tests r) ≡ some x → silent_plan (broken_plan k n x need) ≡ head_plan t k n piece
     unfolding headed decide

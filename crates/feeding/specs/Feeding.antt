@@ -3,10 +3,10 @@ use Rattle.std.specs.Prelude.{ℕ, ◌+◌, ◌-◌, ◌≤◌, ◌≡◌, List,
 use Rattle.wire.specs.Codes
 use Rattle.exports.specs.declared.device.Table.{Table}
 use Rattle.pending.specs.Changes.{keeps}
-use Rattle.pending.specs.Looks.{look_for}
 use Rattle.pending.specs.Pending.{Whole, list_of}
 use Rattle.pending.specs.declared.list.Pending.{Pending}
 use Rattle.limits.specs.Limits
+use Rattle.verdicts.specs.declared.verdict.Refusal.{Refusal}
 use Rattle.model.specs.State.{Sess}
 use Rattle.model.specs.Acts.{Buffers, feed_of}
 use Rattle.model.specs.Cut.{Feeding, written}
@@ -16,7 +16,7 @@ use Rattle.events.specs.Answers.{urb_beside, tickets_of, dropped_by}
 use Rattle.events.specs.Plans.{Result, reply_bytes, request_bytes, parts_after, carried_with}
 use Rattle.events.specs.declared.answer.Event.TheVariants.{Refused}
 use Rattle.events.specs.declared.plan.Plan.{Plan}
-use Rattle.feeding.specs.Asking.{ask_of}
+use Rattle.feeding.specs.Asking.{ask_of, look_asked}
 use Rattle.feeding.specs.Planning.{message_plan, request_plan}
 
 -- All that a feed answers and leaves, by the definitions.
@@ -44,7 +44,7 @@ pub record Composed (r : Plan) (bytes : List ℕ) (t : Table) (k : Link) (l : Pe
   pub fits : r.body + (r.to - r.from) ≤ length b.work
   pub takes : length bytes ≤ Limits.REPLY-LEN → length bytes ≤ length b.reply
   pub fed : carried_with bytes t l r piece b ≡ fed_of (view_of_parts (whole t k l)) b piece time
-  pub same : (n : ℕ) → r.event ≡ Refused n → (r.link ≡ k) × (r.change ≡ keeps l.count)
+  pub same : (refusal : Refusal) → r.event ≡ Refused refusal → (r.link ≡ k) × (r.change ≡ keeps l.count)
   pub tidy : TidyParts (whole t k l) → TidyParts (parts_after t l r)
 
 -- As their types have it: the arrays have their lengths, and the count of accepted URBs is a number of 64 bits.
@@ -59,7 +59,7 @@ Arrays k l =
 abbrev pub feed_plan : Link → Pending → (piece : List ℕ) → (work reply time : ℕ) → Plan
 feed_plan k l piece work reply time =
     let a = ask_of k piece in
-    message_plan k l.count a (look_for (list_of l) a.key) piece work reply time
+    message_plan k l.count a (look_asked (list_of l) a.key) piece work reply time
 
 -- The feed of a message.
 abbrev pub MessageComposed : Type 0

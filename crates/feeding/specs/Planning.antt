@@ -1,15 +1,14 @@
 -- The plan of a feed: which event the bytes of a piece are, and what goes where.
-use Rattle.std.specs.Prelude.{ℕ, ◌+◌, ◌-◌, not, cond, List, ◌++◌, eqb, ltb, length, take, drop}
+use Rattle.std.specs.Prelude.{ℕ, is_some, ◌+◌, ◌-◌, not, cond, List, ◌++◌, eqb, ltb, length, take, drop}
 use Rattle.wire.specs.Codes
 use Rattle.messages.specs.Messages.{request_of, busid_of, data_len, body_len}
 use Rattle.exports.specs.declared.device.Table.{Table}
 use Rattle.lookup.specs.Lookup.{find_in, devid_in}
-use Rattle.lookup.specs.declared.Found.{Found}
-use Rattle.lookup.specs.declared.Found.TheVariants.{At, Nothing}
+use Rattle.std.specs.Prelude.{Option as Maybe, Some, None}
 use Rattle.pending.specs.declared.look.Look.{Look}
 use Rattle.limits.specs.Limits
 use Rattle.ground.specs.Tests.{first, decide}
-use Rattle.verdicts.specs.Verdicts.{feed_tests, request_tests, header_tests}
+use Rattle.verdicts.specs.Verdicts.{feed_refusals, request_tests, header_tests}
 use Rattle.links.specs.Links.{phase_of}
 use Rattle.links.specs.declared.link.Link.{Link}
 use Rattle.links.specs.declared.link.Progress.{Progress}
@@ -51,25 +50,25 @@ submit_plan k n p at piece time =
     cond (eqb (body_len p.header) 0) (submitted_plan k n p.header p.descriptors at time) (body_plan k n p at piece time)
 
 -- A header that was just read, by what was looked up for it.
-abbrev pub header_plan : Link → ℕ → Progress → Look → (at : ℕ) → (piece : List ℕ) → (time : ℕ) → Plan
+abbrev pub header_plan : Link → ℕ → Progress → Maybe Look → (at : ℕ) → (piece : List ℕ) → (time : ℕ) → Plan
 header_plan k n p look at piece time =
-    decide (first (header_tests p.header k.devid look.found)) (λ f. broken_plan k n f at)
+    decide (first (header_tests p.header k.devid (is_some look))) (λ f. broken_plan k n f at)
     (cond (eqb p.header.command Codes.CMD-SUBMIT) (submit_plan k n p at piece time) (unlinked_plan k n p.header look at))
 
-abbrev pub attached_plan : Link → ℕ → Asked → Look → (piece : List ℕ) → (time : ℕ) → Plan
+abbrev pub attached_plan : Link → ℕ → Asked → Maybe Look → (piece : List ℕ) → (time : ℕ) → Plan
 attached_plan k n a look piece time =
     cond (ltb a.progress.filled Codes.HEADER-LEN) (hungry_plan k n a.progress a.consumed)
     (cond a.read (header_plan k n a.progress look a.consumed piece time) (body_plan k n a.progress 0 piece time))
 
-unfoldable pub message_plan : Link → ℕ → Asked → Look → (piece : List ℕ) → (work reply time : ℕ) → Plan
+unfoldable pub message_plan : Link → ℕ → Asked → Maybe Look → (piece : List ℕ) → (work reply time : ℕ) → Plan
 message_plan k n a look piece work reply time =
-    decide (first (feed_tests (not (eqb (phase_of k n) Limits.ATTACHED)) work reply)) (refused_plan k n) (attached_plan k n a look piece time)
+    decide (first (feed_refusals (not (eqb (phase_of k n) Limits.ATTACHED)) work reply)) (refused_plan k n) (attached_plan k n a look piece time)
 
 -- ## A request
 
-abbrev pub imported_plan : Table → Link → ℕ → Found → (consumed : ℕ) → RequestPlan
-imported_plan t k n (At i) consumed = import_plan k n i (devid_in t i) consumed
-imported_plan t k n Nothing consumed = unknown_plan k n consumed
+abbrev pub imported_plan : Table → Link → ℕ → Maybe ℕ → (consumed : ℕ) → RequestPlan
+imported_plan t k n (Some i) consumed = import_plan k n i (devid_in t i) consumed
+imported_plan t k n None consumed = unknown_plan k n consumed
 
 abbrev pub lookup_plan : Table → Link → ℕ → (head : List ℕ) → (consumed : ℕ) → RequestPlan
 lookup_plan t k n head consumed = imported_plan t k n (find_in t (busid_of head)) consumed
@@ -94,4 +93,4 @@ waiting_plan t k n piece = cond (ltb k.progress.filled Codes.OP-LEN) (head_plan 
 
 unfoldable pub request_plan : Table → Link → ℕ → (piece : List ℕ) → (work reply : ℕ) → RequestPlan
 request_plan t k n piece work reply =
-    decide (first (feed_tests (not (eqb (phase_of k n) Limits.WAITING)) work reply)) (λ r. silent_plan (refused_plan k n r)) (waiting_plan t k n piece)
+    decide (first (feed_refusals (not (eqb (phase_of k n) Limits.WAITING)) work reply)) (λ r. silent_plan (refused_plan k n r)) (waiting_plan t k n piece)

@@ -11,13 +11,13 @@ use pending::look::Key;
 use wire::codes::{CMD_SUBMIT, CMD_UNLINK, HEADER_LEN};
 
 // The message in progress with the bytes of a piece that are its header's; how many they are; whether they made the header whole;
-// and what must be looked up then.
+// and what must be looked up then, if anything. (`read` is no Option round the key: a header that asks nothing was read, too.)
 #[derive(Clone, Copy)]
 pub struct Asked {
     pub progress: Progress,
     pub consumed: usize,
     pub read: bool,
-    pub key: Key,
+    pub key: Option<Key>,
 }
 
 // More bytes of the header of the message in progress.
@@ -51,21 +51,18 @@ fn read_from(p: Progress) -> Progress
 }
 
 // A submit asks whether its own seqnum is pending, an unlink for the one that it names.
-fn key_for(h: Header) -> Key
+fn key_for(h: Header) -> Option<Key>
     ensures { result ≡ key_for h }
 {
-    if h.command == CMD_SUBMIT {
-        let seqnum = h.transfer.seqnum;
-        return Key::Seqnum(seqnum);
+    match h.command {
+        CMD_SUBMIT => Some(Key::Seqnum(h.transfer.seqnum)),
+        CMD_UNLINK => Some(Key::Seqnum(unlink_seqnum(h))),
+        _ => None,
     }
-    if h.command == CMD_UNLINK {
-        let seqnum = unlink_seqnum(h);
-        return Key::Seqnum(seqnum);
-    }
-    Key::Nothing
 }
 
 // A header that is read already asks nothing.
+#[tactic(auto, unfolding(crate::specs::Asking::ask_of))]
 pub fn ask(link: Link, piece: &[u8]) -> Asked
     ensures { result ≡ ask_of link piece.now }
 {
@@ -76,27 +73,25 @@ pub fn ask(link: Link, piece: &[u8]) -> Asked
             progress: p,
             consumed: 0,
             read: false,
-            key: Key::Nothing,
+            key: None,
         };
     }
     let need = HEADER_LEN - p.filled;
     if len < need {
-        let q = grown_by(p, &piece[0..len]);
+        let q = grown_by(p, piece);
         return Asked {
             progress: q,
             consumed: len,
             read: false,
-            key: Key::Nothing,
+            key: None,
         };
     }
-    let q = grown_by(p, &piece[0..need]);
+    let q = grown_by(p, &piece[..need]);
     let done = read_from(q);
-    let h = done.header;
-    let key = key_for(h);
     Asked {
         progress: done,
         consumed: need,
         read: true,
-        key: key,
+        key: key_for(done.header),
     }
 }

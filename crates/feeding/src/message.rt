@@ -8,22 +8,11 @@ use events::message::{plan_broken, plan_hungry, plan_submitted, plan_unlinked};
 use events::plan::{Plan, plan_refused};
 use ground::writing::write;
 use limits::ATTACHED;
-use links::guard::phase_of;
-use links::link::{Link, Progress};
-use messages::message::{Header, body_len, data_len};
+use links::link::{Progress, Standing};
+use messages::message::{body_len, data_len};
 use pending::look::Look;
-use verdicts::verdict::{Admission, Reading, feed_refusal, header_fault};
+use verdicts::verdict::{feed_refusal, header_fault};
 use wire::codes::{CMD_SUBMIT, HEADER_LEN};
-
-// What is left of a length behind a place.
-fn rest(len: usize, at: usize) -> usize
-    ensures { result ≡ len - at }
-{
-    if len < at {
-        return 0;
-    }
-    len - at
-}
 
 // More bytes of a body: those past the data are the descriptors', which the session keeps a copy of. (Most bytes are data, and the
 // array isn't touched for them.)
@@ -35,7 +24,7 @@ fn further_on(p: Progress, bytes: &[u8]) -> Progress
     let size = data_len(h);
     let body = p.body;
     let len = bytes.len();
-    let skip = rest(size, body);
+    let skip = size.saturating_sub(body);
     if len <= skip {
         return Progress {
             body: body + len,
@@ -43,7 +32,7 @@ fn further_on(p: Progress, bytes: &[u8]) -> Progress
         };
     }
     let mut descriptors = p.descriptors;
-    let at = rest(body, size);
+    let at = body.saturating_sub(size);
     write(&mut descriptors[at..], &bytes[skip..len]);
     Progress {
         body: body + len,
@@ -53,28 +42,27 @@ fn further_on(p: Progress, bytes: &[u8]) -> Progress
 }
 
 // A submit's body, from a place of the piece on: it goes to the work buffer at its own position.
-fn plan_body(link: Link, pending: usize, p: Progress, at: usize, piece: &[u8], time: u32) -> Plan
+fn plan_body(now: Standing, p: Progress, at: usize, piece: &[u8], time: u32) -> Plan
     requires { at ≤ length piece.now }
-    ensures { result ≡ body_plan link pending p at piece.now time }
+    ensures { result ≡ body_plan now.link now.pending p at piece.now time }
 {
     let h = p.header;
     let body = p.body;
     let len = piece.len();
-    let need = rest(body_len(h), body);
+    let need = body_len(h).saturating_sub(body);
     if len - at < need {
-        let q = further_on(p, &piece[at..len]);
-        let wait = plan_hungry(link, pending, q, len);
+        let q = further_on(p, &piece[at..]);
         return Plan {
             body: body,
             from: at,
             to: len,
-            ..wait
+            ..plan_hungry(now, q, len)
         };
     }
     let end = at + need;
     let q = further_on(p, &piece[at..end]);
     let descriptors = q.descriptors;
-    let judged = plan_submitted(link, pending, h, descriptors, end, time);
+    let judged = plan_submitted(now, h, descriptors, end, time);
     Plan {
         body: body,
         from: at,
@@ -84,86 +72,74 @@ fn plan_body(link: Link, pending: usize, p: Progress, at: usize, piece: &[u8], t
 }
 
 // A submit whose header passed: it ends there, or its body follows.
-fn plan_submit(link: Link, pending: usize, p: Progress, at: usize, piece: &[u8], time: u32) -> Plan
+fn plan_submit(now: Standing, p: Progress, at: usize, piece: &[u8], time: u32) -> Plan
     requires { at ≤ length piece.now }
-    ensures { result ≡ submit_plan link pending p at piece.now time }
+    ensures { result ≡ submit_plan now.link now.pending p at piece.now time }
 {
     let h = p.header;
     if body_len(h) == 0 {
         let descriptors = p.descriptors;
-        return plan_submitted(link, pending, h, descriptors, at, time);
+        return plan_submitted(now, h, descriptors, at, time);
     }
-    plan_body(link, pending, p, at, piece, time)
+    plan_body(now, p, at, piece, time)
 }
 
 // A header that was just read, by what was looked up for it.
 fn plan_header(
-    link: Link,
-    pending: usize,
+    now: Standing,
     p: Progress,
-    look: Look,
+    look: Option<Look>,
     at: usize,
     piece: &[u8],
     time: u32,
 ) -> Plan
     requires { at ≤ length piece.now }
-    ensures { result ≡ header_plan link pending p look at piece.now time }
+    ensures { result ≡ header_plan now.link now.pending p look at piece.now time }
 {
     let h = p.header;
-    let reading = header_fault(h, link.devid, look.found);
-    match reading {
-        Reading::Faulty(fault) => plan_broken(link, pending, fault, at),
-        Reading::Sound => {
+    match header_fault(h, now.link.devid, look.is_some()) {
+        Err(fault) => plan_broken(now, fault, at),
+        Ok(()) => {
             if h.command == CMD_SUBMIT {
-                return plan_submit(link, pending, p, at, piece, time);
+                return plan_submit(now, p, at, piece, time);
             }
-            plan_unlinked(link, pending, h, look, at)
+            plan_unlinked(now, h, look, at)
         }
     }
 }
 
 // The bytes of a session that is attached.
-fn plan_attached(
-    link: Link,
-    pending: usize,
-    asked: Asked,
-    look: Look,
-    piece: &[u8],
-    time: u32,
-) -> Plan
+fn plan_attached(now: Standing, asked: Asked, look: Option<Look>, piece: &[u8], time: u32) -> Plan
     requires { asked.consumed ≤ length piece.now }
-    ensures { result ≡ attached_plan link pending asked look piece.now time }
+    ensures { result ≡ attached_plan now.link now.pending asked look piece.now time }
 {
     let p = asked.progress;
     if p.filled < HEADER_LEN {
-        return plan_hungry(link, pending, p, asked.consumed);
+        return plan_hungry(now, p, asked.consumed);
     }
     if asked.read {
-        return plan_header(link, pending, p, look, asked.consumed, piece, time);
+        return plan_header(now, p, look, asked.consumed, piece, time);
     }
-    plan_body(link, pending, p, 0, piece, time)
+    plan_body(now, p, 0, piece, time)
 }
 
-// The plan for a piece, with so many URBs pending and buffers of these lengths, by what the piece asked, what was looked up and the time
-// that was given. (It needs neither the table nor the list.)
+// The plan for a piece, with buffers of these lengths, by what the piece asked, what was looked up and the time that was given. (It needs
+// neither the table nor the list.)
 pub fn plan_piece(
-    link: Link,
-    pending: usize,
+    now: Standing,
     asked: Asked,
-    look: Look,
+    look: Option<Look>,
     piece: &[u8],
     work: usize,
     reply: usize,
     time: u32,
 ) -> Plan
     requires { asked.consumed ≤ length piece.now }
-    ensures { result ≡ message_plan link pending asked look piece.now work reply time }
+    ensures { result ≡ message_plan now.link now.pending asked look piece.now work reply time }
 {
-    let phase = phase_of(link, pending);
-    let closed = phase != ATTACHED;
-    let admission = feed_refusal(closed, work, reply);
-    match admission {
-        Admission::Refused(number) => plan_refused(link, pending, number),
-        Admission::Admitted => plan_attached(link, pending, asked, look, piece, time),
+    let closed = now.phase() != ATTACHED;
+    match feed_refusal(closed, work, reply) {
+        Err(refusal) => plan_refused(now, refusal),
+        Ok(()) => plan_attached(now, asked, look, piece, time),
     }
 }

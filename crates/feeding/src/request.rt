@@ -9,121 +9,90 @@ use events::plan::{RequestPlan, plan_refused};
 use events::request::{plan_import, plan_list, plan_silent, plan_unknown};
 use exports::device::Table;
 use limits::WAITING;
-use links::guard::phase_of;
-use links::link::{Link, Progress};
-use lookup::{Found, devid_at, find};
+use links::link::{Progress, Standing};
+use lookup::{devid_at, find};
 use messages::request::{read_busid, read_request};
-use verdicts::verdict::{Admission, Reading, feed_refusal, request_fault};
+use verdicts::verdict::{feed_refusal, request_fault};
 use wire::codes::{BUSID_LEN, HEADER_LEN, OP_LEN, OP_REQ_DEVLIST};
 
 // The last byte of an import is in: the device of the table that has the busid is attached, if there is one.
-fn plan_lookup(
-    table: Table,
-    link: Link,
-    pending: usize,
-    head: [u8; HEADER_LEN],
-    consumed: usize,
-) -> RequestPlan
-    ensures { result ≡ lookup_plan table link pending head consumed }
+fn plan_lookup(table: Table, now: Standing, head: [u8; HEADER_LEN], consumed: usize) -> RequestPlan
+    ensures { result ≡ lookup_plan table now.link now.pending head consumed }
 {
-    let busid = read_busid(head);
-    let found = find(table, busid);
-    match found {
-        Found::At(i) => {
-            let devid = devid_at(table, i);
-            plan_import(link, pending, i, devid, consumed)
-        }
-        Found::Nothing => plan_unknown(link, pending, consumed),
+    match find(table, read_busid(head)) {
+        Some(place) => plan_import(now, place, devid_at(table, place), consumed),
+        None => plan_unknown(now, consumed),
     }
 }
 
 // An import's busid, from a place of the piece on.
-fn plan_busid(
-    table: Table,
-    link: Link,
-    pending: usize,
-    p: Progress,
-    piece: &[u8],
-    at: usize,
-) -> RequestPlan
+fn plan_busid(table: Table, now: Standing, p: Progress, piece: &[u8], at: usize) -> RequestPlan
     requires { (p.filled < Codes.OP-LEN + Codes.BUSID-LEN) × (at ≤ length piece.now) }
-    ensures { result ≡ busid_plan table link pending p piece.now at }
+    ensures { result ≡ busid_plan table now.link now.pending p piece.now at }
 {
     let need = OP_LEN + BUSID_LEN - p.filled;
     let len = piece.len();
     if len - at < need {
-        let q = grown_by(p, &piece[at..len]);
-        let wait = plan_hungry(link, pending, q, len);
-        return plan_silent(wait);
+        let q = grown_by(p, &piece[at..]);
+        return plan_silent(plan_hungry(now, q, len));
     }
     let end = at + need;
     let q = grown_by(p, &piece[at..end]);
     let head = q.head;
-    plan_lookup(table, link, pending, head, end)
+    plan_lookup(table, now, head, end)
 }
 
 // A request's first 8 bytes.
-fn plan_head(table: Table, link: Link, pending: usize, piece: &[u8]) -> RequestPlan
-    requires { link.progress.filled < Codes.OP-LEN }
-    ensures { result ≡ head_plan table link pending piece.now }
+fn plan_head(table: Table, now: Standing, piece: &[u8]) -> RequestPlan
+    requires { now.link.progress.filled < Codes.OP-LEN }
+    ensures { result ≡ head_plan table now.link now.pending piece.now }
 {
-    let p = link.progress;
+    let p = now.link.progress;
     let need = OP_LEN - p.filled;
     let len = piece.len();
     if len < need {
-        let q = grown_by(p, &piece[0..len]);
-        let wait = plan_hungry(link, pending, q, len);
-        return plan_silent(wait);
+        let q = grown_by(p, piece);
+        return plan_silent(plan_hungry(now, q, len));
     }
-    let q = grown_by(p, &piece[0..need]);
+    let q = grown_by(p, &piece[..need]);
     let head = q.head;
     let request = read_request(head);
-    let reading = request_fault(request);
-    match reading {
-        Reading::Faulty(fault) => {
-            let end = plan_broken(link, pending, fault, need);
-            plan_silent(end)
-        }
-        Reading::Sound => {
+    match request_fault(request) {
+        Err(fault) => plan_silent(plan_broken(now, fault, need)),
+        Ok(()) => {
             if request.code == OP_REQ_DEVLIST {
-                return plan_list(link, pending, need);
+                return plan_list(now, need);
             }
-            plan_busid(table, link, pending, q, piece, need)
+            plan_busid(table, now, q, piece, need)
         }
     }
 }
 
 // The bytes of a session that waits.
-fn plan_waiting(table: Table, link: Link, pending: usize, piece: &[u8]) -> RequestPlan
-    requires { link.progress.filled < Codes.OP-LEN + Codes.BUSID-LEN }
-    ensures { result ≡ waiting_plan table link pending piece.now }
+fn plan_waiting(table: Table, now: Standing, piece: &[u8]) -> RequestPlan
+    requires { now.link.progress.filled < Codes.OP-LEN + Codes.BUSID-LEN }
+    ensures { result ≡ waiting_plan table now.link now.pending piece.now }
 {
-    let p = link.progress;
+    let p = now.link.progress;
     if p.filled < OP_LEN {
-        return plan_head(table, link, pending, piece);
+        return plan_head(table, now, piece);
     }
-    plan_busid(table, link, pending, p, piece, 0)
+    plan_busid(table, now, p, piece, 0)
 }
 
-// The plan for a piece, with so many URBs pending and buffers of these lengths.
+// The plan for a piece, with buffers of these lengths.
 pub fn plan_request(
     table: Table,
-    link: Link,
-    pending: usize,
+    now: Standing,
     piece: &[u8],
     work: usize,
     reply: usize,
 ) -> RequestPlan
-    ensures { result ≡ request_plan table link pending piece.now work reply }
+    ensures { result ≡ request_plan table now.link now.pending piece.now work reply }
 {
-    let phase = phase_of(link, pending);
-    let closed = phase != WAITING;
-    let admission = feed_refusal(closed, work, reply);
-    match admission {
-        Admission::Refused(number) => {
-            let no = plan_refused(link, pending, number);
-            plan_silent(no)
-        }
-        Admission::Admitted => plan_waiting(table, link, pending, piece),
+    let closed = now.phase() != WAITING;
+    match feed_refusal(closed, work, reply) {
+        Err(refusal) => plan_silent(plan_refused(now, refusal)),
+        Ok(()) => plan_waiting(table, now, piece),
     }
 }

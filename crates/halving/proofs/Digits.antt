@@ -1,11 +1,12 @@
 -- How many binary digits a number has.
-use Prim.Native.Nat.{ℕ, zero, suc, ◌-◌, ◌/◌, ◌^◌, ◌≤◌, ◌<◌}
-use mathlib.Core.Path.{◌≡◌, refl, subst}
+use Prim.Native.Nat.{ℕ, zero, suc, ◌+◌, ◌*◌, ◌-◌, ◌/◌, ◌^◌, ◌≤◌, ◌<◌}
+use mathlib.Core.Path.{◌≡◌, refl, ap, ◌∙◌, subst}
 use mathlib.Core.Bool.{Bool, true, false}
 use native.Mathlib.Omega.{arith}
 use native.Mathlib.Nat.{pow-suc}
 use borrow.Author.Tests.{eqb-true, eqb-false, eq-eqb, ne_eqb}
 use lib.Dec.{eqb}
+use Rattle.std.proofs.lemmas.Nat.{pow_pos}
 use Rattle.halving.specs.Halving.{digits_up_to, binary_digits, DigitsCount, DigitsKnown}
 
 -- any bound that suffices gives the same
@@ -19,9 +20,9 @@ same_up_to (suc j) (suc k) n p q = at (eqb n 0) refl (same_up_to j k (n / 2))
     at true e h = rw e
     at false e h = let l : 0 < n = omega (arith, eqb-false n 0 e) in rw (e, h (omega arith) (omega arith))
 
-pub digits-none : binary_digits 0 ≡ 0
+pub digits_none : binary_digits 0 ≡ 0
 unfolding binary_digits
-digits-none = refl
+digits_none = refl
 
 -- one more than its half has
 pub digits_more : (n : ℕ) → 0 < n → binary_digits n ≡ suc (binary_digits (n / 2))
@@ -42,13 +43,13 @@ by_halves P none more n = below n n (omega arith)
         at false e f = let l : 0 < n = omega (arith, eqb-false n 0 e) in more n l (f (omega arith))
 
 pub digits-most : (n : ℕ) → binary_digits n ≤ n
-digits-most = by_halves (λ n. binary_digits n ≤ n) (rw digits-none (omega arith)) (λ n h b. rw (digits_more n h) (omega arith))
+digits-most = by_halves (λ n. binary_digits n ≤ n) (rw digits_none (omega arith)) (λ n h b. rw (digits_more n h) (omega arith))
 
 abbrev Counts : ℕ → Type 0
 Counts n = (n < 2 ^ binary_digits n) × (0 < n → 2 ^ (binary_digits n - 1) ≤ n)
 
 counts-none : Counts 0
-counts-none = rw digits-none (omega arith, λ h. absurd (omega arith))
+counts-none = rw digits_none (omega arith, λ h. absurd (omega arith))
 
 counts-more : (n : ℕ) → 0 < n → Counts (n / 2) → Counts n
 counts-more n h c = rw (digits_more n h) (above, λ _. below (binary_digits (n / 2)) refl)
@@ -69,6 +70,17 @@ counts-more n h c = rw (digits_more n h) (above, λ _. below (binary_digits (n /
 
 pub digits-count : DigitsCount
 digits-count = by_halves Counts counts-none counts-more
+
+-- that of a number from 2^d up to 2^(d+1)
+pub digits_are : (n d : ℕ) → 2 ^ d ≤ n → n < 2 * 2 ^ d → binary_digits n ≡ d + 1
+digits_are n zero p q =
+    let one : 1 ≡ n = omega (arith, p, q) in
+    rw (← one) (digits_more 1 (omega arith) ∙ ap suc digits_none)
+digits_are n (suc d) p q =
+    let low : 2 ^ d * 2 ≤ n = rw (pow-suc 2 d) at p in
+    let high : n < 2 * (2 ^ d * 2) = rw (pow-suc 2 d) at q in
+    let half : binary_digits (n / 2) ≡ d + 1 = digits_are (n / 2) d (omega arith) (omega arith) in
+    omega (arith, digits_more n (omega (arith, pow_pos d)), half)
 
 pub digits_known : DigitsKnown
 unfolding binary_digits

@@ -12,9 +12,9 @@ use Rattle.records.proofs.Records.{record_length}
 use Rattle.records.proofs.Offsets.{sample}
 use Rattle.importing.specs.Imports.{import_reply}
 
-pub import-length : (d : Device) → Shaped d → length (import_reply d) ≡ OP-LEN + DEVICE-LEN
+pub import_length : (d : Device) → Shaped d → length (import_reply d) ≡ OP-LEN + DEVICE-LEN
 unfolding import_reply
-import-length d s = length-append (reply_head OP-REP-IMPORT 0) (device_record d) ∙ omega (arith, record_length d s)
+import_length d s = length-append (reply_head OP-REP-IMPORT 0) (device_record d) ∙ omega (arith, record_length d s)
 
 -- Offsets as in source document 000's import table, but for its bDeviceClass, which the lengths put at 0x13A, and so
 -- bNumInterfaces at 0x13F.

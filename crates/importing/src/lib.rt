@@ -14,6 +14,7 @@ use records::record::{DEVICE_LEN, write_record};
 use wire::codes::{OP_LEN, OP_REP_IMPORT};
 
 // Writes the reply to an import of the device, if the buffer has room, and answers how many bytes it wrote.
+#[tactic(auto, using(crate::proofs::Offsets::import_length, ground::proofs::Lists::unmapped))]
 pub fn import_reply(d: Device, reply: &mut [u8]) -> usize
     ensures wrote { Wrote (import_reply d) reply.old reply.new result }
     ensures d_len { length (import_reply d) ≡ OP-LEN + DEVICE-LEN }
@@ -21,8 +22,7 @@ pub fn import_reply(d: Device, reply: &mut [u8]) -> usize
     if reply.len() < OP_LEN + DEVICE_LEN {
         return 0;
     }
-    let head = reply_head(OP_REP_IMPORT, 0);
-    write(reply, &head);
+    write(reply, &reply_head(OP_REP_IMPORT, 0));
     write_record(&mut reply[OP_LEN..], d);
     OP_LEN + DEVICE_LEN
 }
@@ -32,6 +32,5 @@ pub fn import_reply(d: Device, reply: &mut [u8]) -> usize
 pub fn refuse_import(reply: &mut [u8]) -> usize
     ensures { Wrote import_refusal reply.old reply.new result }
 {
-    let head = reply_head(OP_REP_IMPORT, 1);
-    write(reply, &head)
+    write(reply, &reply_head(OP_REP_IMPORT, 1))
 }

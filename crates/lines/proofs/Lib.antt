@@ -1,3 +1,2 @@
--- A line behind other text, and examples of the lines.
+-- Examples of the lines.
 pub mod Examples
-pub mod Lines

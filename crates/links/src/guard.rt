@@ -2,7 +2,7 @@
 ghost use Rattle.std.specs.Prelude.{◌≡◌};
 ghost use Rattle.links.specs.Links.{counts_fit, attached_fits, progress_fits, phase_of};
 
-use crate::link::{Link, Progress};
+use crate::link::{Progress, Standing};
 use limits::{ATTACHED, CLOSED, MAX_PENDING, MAX_TRANSFER, WAITING};
 use messages::message::{body_len, data_len};
 use pending::counts::Counts;
@@ -60,15 +60,18 @@ fn progress_fits(phase: u8, p: Progress) -> bool
     false
 }
 
-// The phase of a link with so many URBs pending; one whose parts don't fit together, as no act leaves it, is taken for closed.
-pub fn phase_of(link: Link, pending: usize) -> u8
-    ensures { result ≡ phase_of link pending }
-{
-    if !counts_fit(link.counts, pending) {
-        return CLOSED;
+impl Standing {
+    // The phase; a standing whose parts don't fit together, as no act leaves one, is taken for closed.
+    pub fn phase(self) -> u8
+        ensures { result ≡ phase_of self.link self.pending }
+    {
+        let link = self.link;
+        if !counts_fit(link.counts, self.pending) {
+            return CLOSED;
+        }
+        if !progress_fits(link.phase, link.progress) {
+            return CLOSED;
+        }
+        link.phase
     }
-    if !progress_fits(link.phase, link.progress) {
-        return CLOSED;
-    }
-    link.phase
 }

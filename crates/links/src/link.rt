@@ -20,7 +20,7 @@ pub struct Progress {
 }
 
 // The link to the client: WAITING, ATTACHED or CLOSED; the devid of the device that is attached (64 bits, so that none
-// overflows it); the message in progress; the counts.
+// overflows it); the message in progress; the counts. (The phase is a number: C holds the session, and any byte may stand there.)
 #[repr(C)]
 #[derive(Clone, Copy)]
 pub struct Link {
@@ -28,6 +28,13 @@ pub struct Link {
     pub devid: u64,
     pub progress: Progress,
     pub counts: Counts,
+}
+
+// What a plan starts from: the link, and how many URBs are pending.
+#[derive(Clone, Copy)]
+pub struct Standing {
+    pub link: Link,
+    pub pending: usize,
 }
 
 fn no_progress() -> Progress
@@ -80,15 +87,14 @@ pub fn count_plus(count: u64, more: u64) -> u64
     count + more
 }
 
-// The link of a session that ends with so many URBs pending.
-pub fn ended_link(old: Link, pending: usize) -> Link
-    ensures { result ≡ ended_link old pending }
-{
-    let c = old.counts;
-    let dropped = count_plus(c.dropped, pending as u64);
-    let counts = Counts {
-        dropped: dropped,
-        ..c
-    };
-    resting_link(CLOSED, old.devid, counts)
+impl Standing {
+    // The link of a session that ends there: all that is pending is dropped.
+    pub fn ended(self) -> Link
+        ensures { result ≡ ended_link self.link self.pending }
+    {
+        let link = self.link;
+        let c = link.counts;
+        let dropped = count_plus(c.dropped, self.pending as u64);
+        resting_link(CLOSED, link.devid, Counts { dropped, ..c })
+    }
 }

@@ -12,7 +12,7 @@ use Rattle.exports.specs.declared.device.Device.{Device}
 use Rattle.exports.specs.declared.device.Table.{Table}
 use Rattle.records.specs.Records.{Shaped}
 use Rattle.listing.specs.Lists.{LIST-HEAD-LEN, few, listed_device, listed_size, list_size, list_head, list_reply}
-use Rattle.listing.proofs.Lists.{few_known, listed-length, list_is, list_length}
+use Rattle.listing.proofs.Lists.{few_known, listed_length, list_is, list_length}
 
 -- every device of a list is as its types say
 abbrev pub AllShaped : List Device → Type 0
@@ -23,7 +23,7 @@ pub joined-size : (ds : List Device) → AllShaped ds → every few ds ≡ true 
 joined-size [] s h = refl
 joined-size (d ∷ ds) s h =
     let b = (and-eq-true_iff (few d) (every few ds)).0 h in
-    length-append (listed_device d) (joined listed_device ds) ∙ rw (listed-length d s.0 (few_known d b.0), joined-size ds s.1 b.1)
+    length-append (listed_device d) (joined listed_device ds) ∙ rw (listed_length d s.0 (few_known d b.0), joined-size ds s.1 b.1)
 
 -- the i-th device stands behind the sizes of those before it
 pub joined_at : (before : List Device) (d : Device) (after : List Device) → AllShaped before → every few before ≡ true
@@ -31,7 +31,7 @@ pub joined_at : (before : List Device) (d : Device) (after : List Device) → Al
 joined_at [] d after s h = refl
 joined_at (b ∷ before) d after s h =
     let p = (and-eq-true_iff (few b) (every few before)).0 h in
-    let n = listed-length b s.0 (few_known b p.0) in
+    let n = listed_length b s.0 (few_known b p.0) in
     rw (
       ← (drop-drop (list_size before) (listed_size b) (listed_device b ++ joined listed_device (before ++ d ∷ after))),
       drop_at (listed_device b) (joined listed_device (before ++ d ∷ after)) (listed_size b) n,

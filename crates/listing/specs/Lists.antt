@@ -61,8 +61,8 @@ abbrev pub MAX-LIST : ℕ
 MAX-LIST = LIST-HEAD-LEN + MAX-DEVICES * MAX-LISTED
 
 -- What the writer of a list reply asks of those who call it: devices that have a reply, their interfaces' bytes, and room.
-pub record Listing (devices : List Device) (interfaces : List (List (List ℕ))) (n : ℕ) (reply : List ℕ) : Type 0 where
-  pub count : n ≤ MAX-DEVICES
-  pub bytes : interfaces ≡ map records_of devices
-  pub each : every few (take n devices) ≡ true
-  pub room : LIST-HEAD-LEN + length (joined listed_device (take n devices)) ≤ length reply
+pub record Listing (devices : List Device) (interfaces : List (List (List ℕ))) (reply : List ℕ) : Type 0 where
+  pub count : length devices ≤ MAX-DEVICES
+  pub bytes : take (length devices) interfaces ≡ map records_of devices
+  pub each : every few devices ≡ true
+  pub room : LIST-HEAD-LEN + length (joined listed_device devices) ≤ length reply

@@ -10,7 +10,7 @@ use native.Mathlib.Omega.{arith}
 use lib.ListN.{length, get_or}
 use Rattle.exports.specs.declared.device.Device.{Device}
 use Rattle.exports.specs.declared.device.Table.{Table}
-use Rattle.lookup.specs.declared.Found.TheVariants.{At, Nothing}
+use Rattle.std.specs.Prelude.{Some, None}
 use Rattle.ground.specs.Lists.{same_bytes}
 use Rattle.lookup.specs.Lookup.{find_from, find_busid, find_in, FirstDevice, NoDevice}
 use Rattle.ground.proofs.Tests.{refutes, fails, same_iff}
@@ -40,33 +40,33 @@ module _ (busid : List ℕ) where
           )
       at false e (inr h) = inr (up_to (length ds) (λ j. (get_or (d ∷ ds) j no_device).busid ≡ busid → ⊥) (refutes (same_iff d.busid busid) e) h)
 
-  found_at : (k : ℕ) (ds : List Device) (n : ℕ) → FirstDevice ds busid n → find_from k busid ds ≡ At (k + n)
+  found_at : (k : ℕ) (ds : List Device) (n : ℕ) → FirstDevice ds busid n → find_from k busid ds ≡ Some (k + n)
   found_at k [] n f = absurd (omega (arith, f.inside))
-  found_at k (d ∷ ds) zero f = rw ((same_iff d.busid busid).1 f.has) (ap At (omega arith))
+  found_at k (d ∷ ds) zero f = rw ((same_iff d.busid busid).1 f.has) (ap Some (omega arith))
   found_at k (d ∷ ds) (suc n) f =
       let behind : FirstDevice ds busid n =
       record { inside = le_of_suc-le-suc f.inside; has = f.has; before = λ j h. f.before (suc j) (suc-le-suc h) } in
-      rw (fails (same_iff d.busid busid) (f.before 0 (omega arith))) (found_at (suc k) ds n behind ∙ ap At (omega arith))
+      rw (fails (same_iff d.busid busid) (f.before 0 (omega arith))) (found_at (suc k) ds n behind ∙ ap Some (omega arith))
 
-  found_none : (k : ℕ) (ds : List Device) → NoDevice ds busid → find_from k busid ds ≡ Nothing
+  found_none : (k : ℕ) (ds : List Device) → NoDevice ds busid → find_from k busid ds ≡ None
   found_none k [] h = refl
   found_none k (d ∷ ds) h =
       rw (fails (same_iff d.busid busid) (h 0 (omega arith))) (found_none (suc k) ds (λ i l. h (suc i) (suc-le-suc l)))
 
-  first_iff : (ds : List Device) (i : ℕ) → (find_busid busid ds ≡ At i) ↔ FirstDevice ds busid i
-  first_iff ds i = (λ e. at e (locate ds), λ f. found_at 0 ds i f ∙ ap At (omega arith))
+  first_iff : (ds : List Device) (i : ℕ) → (find_busid busid ds ≡ Some i) ↔ FirstDevice ds busid i
+  first_iff ds i = (λ e. at e (locate ds), λ f. found_at 0 ds i f ∙ ap Some (omega arith))
     where
-      at : find_busid busid ds ≡ At i → ((n : ℕ) × FirstDevice ds busid n) ⊎ NoDevice ds busid → FirstDevice ds busid i
+      at : find_busid busid ds ≡ Some i → ((n : ℕ) × FirstDevice ds busid n) ⊎ NoDevice ds busid → FirstDevice ds busid i
       at e (inl w) = let q : 0 + w.0 ≡ i = cc (found_at 0 ds w.0 w.1) in let r : w.0 ≡ i = omega arith in rw r at w.1
       at e (inr h) = let q : ◌≡◌ {A = ℕ} 0 1 = cc (found_none 0 ds h) in absurd (omega arith)
 
-  none_iff : (ds : List Device) → (find_busid busid ds ≡ Nothing) ↔ NoDevice ds busid
+  none_iff : (ds : List Device) → (find_busid busid ds ≡ None) ↔ NoDevice ds busid
   none_iff ds = (λ e. at e (locate ds), found_none 0 ds)
     where
-      at : find_busid busid ds ≡ Nothing → ((n : ℕ) × FirstDevice ds busid n) ⊎ NoDevice ds busid → NoDevice ds busid
+      at : find_busid busid ds ≡ None → ((n : ℕ) × FirstDevice ds busid n) ⊎ NoDevice ds busid → NoDevice ds busid
       at e (inl w) = let q : ◌≡◌ {A = ℕ} 0 1 = cc (found_at 0 ds w.0 w.1) in absurd (omega arith)
       at e (inr h) = h
 
 pub find_first : (t : Table) (busid : List ℕ) →
-    ((i : ℕ) → (find_in t busid ≡ At i) ↔ FirstDevice (devices_of t) busid i) × ((find_in t busid ≡ Nothing) ↔ NoDevice (devices_of t) busid)
+    ((i : ℕ) → (find_in t busid ≡ Some i) ↔ FirstDevice (devices_of t) busid i) × ((find_in t busid ≡ None) ↔ NoDevice (devices_of t) busid)
 find_first t busid = (first_iff busid (devices_of t), none_iff busid (devices_of t))

@@ -2,23 +2,21 @@
 -- proofs/First.antt says the same with quantifiers.
 use Rattle.limits.specs.Limits.{MAX-DEVICES}
 use Rattle.exports.specs.Devices.{devices_of, no_device}
-use Rattle.std.specs.Prelude.{ℕ, suc, ◌+◌, ◌*◌, ◌<◌, ◌≡◌, cond, List, [], ◌∷◌, ltb, length, get_or}
+use Rattle.std.specs.Prelude.{ℕ, suc, ◌+◌, ◌*◌, ◌<◌, ◌≡◌, cond, Option, Some, None, List, [], ◌∷◌, ltb, length, get_or}
 use Rattle.exports.specs.declared.device.Device.{Device}
 use Rattle.exports.specs.declared.device.Table.{Table}
-use Rattle.lookup.specs.declared.Found.{Found}
-use Rattle.lookup.specs.declared.Found.TheVariants.{At, Nothing}
 use Rattle.ground.specs.Lists.{same_bytes}
 
 -- The place of the first device whose busid bytes all match, where the devices stand from place i on.
-abbrev pub find_from : ℕ → List ℕ → List Device → Found
-find_from i busid [] = Nothing
-find_from i busid (d ∷ ds) = cond (same_bytes d.busid busid) (At i) (find_from (suc i) busid ds)
+abbrev pub find_from : ℕ → List ℕ → List Device → Option ℕ
+find_from i busid [] = None
+find_from i busid (d ∷ ds) = cond (same_bytes d.busid busid) (Some i) (find_from (suc i) busid ds)
 
-abbrev pub find_busid : List ℕ → List Device → Found
+abbrev pub find_busid : List ℕ → List Device → Option ℕ
 find_busid busid ds = find_from 0 busid ds
 
 -- The look-up in a table: what stands past its count is not found.
-abbrev pub find_in : Table → List ℕ → Found
+abbrev pub find_in : Table → List ℕ → Option ℕ
 find_in t busid = find_busid busid (devices_of t)
 
 -- The device at a place of the array; past its end, the first.

@@ -1,28 +1,75 @@
 -- An unlink's padding: the place that is read names its first byte that isn't 0, if there is one.
 use Prim.Native.Nat.{ℕ, zero, suc, ◌+◌, ◌-◌, ◌≤◌, ◌<◌}
-use mathlib.Core.Path.{◌≡◌, refl, subst}
+use mathlib.Core.Path.{◌≡◌, refl, sym, subst, ◌∙◌}
 use mathlib.Core.Logic.{◌↔◌, inl, inr, ⊎_elim}
-use mathlib.Core.Bool.{Bool, true, false, cond}
+use mathlib.Core.Bool.{Bool, true, false, cond, not}
 use mathlib.Core.List.{List}
-use native.Mathlib.Numerals.{add-one}
 use native.Mathlib.Omega.{arith}
-use borrow.Author.Tests.{eqb-true, eqb-false, ltb-true, ltb-false, lt-ltb}
+use borrow.Author.Tests.{eqb-true, eqb-false, ltb-true, ltb-false, lt-ltb, le-ltb}
 use lib.Dec.{eqb, ltb}
-use lib.ListN.{get_or}
+use lib.ListN.{get_or, length, take, drop, length-drop}
+use lib.Seq.{drop-cons, length-take-le}
+use Rattle.std.specs.Prelude.{Option, Some, None}
+use Rattle.std.proofs.lemmas.List.Sums.{prefix_len-le-length}
+use Rattle.std.specs.List.{position, position_or_len}
 use Rattle.wire.specs.Codes
 use Rattle.messages.specs.Messages.{first_set, dirty_of, Padding, Dirty, FirstDirty}
 
--- ## A walk from place to place
+-- ## The place, as std's search finds it
 
-pub set_next : (m : List ℕ) (to i : ℕ) → i < to → first_set (to - i) i m ≡ cond (eqb (get_or m i 0) 0) (first_set (to - (i + 1)) (i + 1) m) i
-set_next m to i h =
-    let e : to - i ≡ suc (to - (i + 1)) = omega arith in
-    rw (e, add-one i)
+-- what a search of n places from i on finds
+abbrev pub Found : List ℕ → ℕ → ℕ → Option ℕ → Type 0
+Found m n i found = found ≡ position (λ byte. not (eqb byte 0)) (take n (drop i m))
 
-pub set_past : (m : List ℕ) (to i : ℕ) → to ≤ i → first_set (to - i) i m ≡ i
-set_past m to i h =
-    let e : to - i ≡ 0 = omega arith in
-    rw e
+module _ (m : List ℕ) where
+  abbrev steps : ℕ → ℕ → ℕ
+  steps n i = position_or_len (λ byte. not (eqb byte 0)) (take n (drop i m))
+
+  set_is : (n i : ℕ) → i + n ≤ length m → first_set n i m ≡ i + steps n i
+  set_is zero i h = omega arith
+  set_is (suc n) i h = rw (drop-cons m i 0 (omega arith)) (at (eqb (get_or m i 0) 0) _ _ (set_is n (suc i) (omega arith)))
+    where
+      at : (c : Bool) (a b : ℕ) → a ≡ suc i + b → cond c a i ≡ i + cond (not (not c)) (1 + b) 0
+      at true a b e = omega arith
+      at false a b e = omega arith
+
+  size : (n i : ℕ) → i + n ≤ length m → length (take n (drop i m)) ≡ n
+  size n i h = length-take-le n (drop i m) (simp length-drop (omega arith))
+
+  set_at : (n i : ℕ) {k : ℕ} → i + n ≤ length m → Found m n i (Some k) → (first_set n i m ≡ i + k) × (k < n)
+  set_at n i {k} h e = by (ltb (steps n i) (length (take n (drop i m)))) refl e
+    where
+      by : (c : Bool) → ltb (steps n i) (length (take n (drop i m))) ≡ c → Some k ≡ cond c (Some (steps n i)) None → (first_set n i m ≡ i + k) × (k < n)
+      by true l f =
+          let q : steps n i ≡ k = cc in
+          let s : steps n i < length (take n (drop i m)) = ltb-true _ _ l in
+          (omega (arith, set_is n i h, q), omega (arith, q, s, size n i h))
+      by false l f = absurd (cc)
+
+  unset : (n i : ℕ) → i + n ≤ length m → Found m n i None → first_set n i m ≡ i + n
+  unset n i h e = by (ltb (steps n i) (length (take n (drop i m)))) refl e
+    where
+      by : (c : Bool) → ltb (steps n i) (length (take n (drop i m))) ≡ c → None ≡ cond c (Some (steps n i)) None → first_set n i m ≡ i + n
+      by true l f = absurd (cc)
+      by false l f =
+          let most : steps n i ≤ length (take n (drop i m)) = prefix_len-le-length _ (take n (drop i m)) in
+          let least : length (take n (drop i m)) ≤ steps n i = ltb-false _ _ l in
+          omega (arith, set_is n i h, most, least, size n i h)
+
+  in_front : (a b p k n : ℕ) → (a ≡ p + k) × (k < n) → p + k ≡ cond (ltb a (p + n)) a b
+  in_front a b p k n f = rw (lt-ltb a (p + n) (omega (arith, f.0, f.1))) (sym f.0)
+
+  behind : (a b p n : ℕ) → a ≡ p + n → b ≡ cond (ltb a (p + n)) a b
+  behind a b p n e = rw (le-ltb a (p + n) (omega (arith, e)))
+
+  pub dirty_front : {k : ℕ} → length m ≡ Codes.HEADER-LEN → Found m 8 12 (Some k) → 12 + k ≡ dirty_of m
+  dirty_front h e = in_front (first_set 8 12 m) _ 12 _ 8 (set_at 8 12 (omega arith) e)
+
+  pub dirty_back : {k : ℕ} → length m ≡ Codes.HEADER-LEN → Found m 8 12 None → Found m 24 24 (Some k) → 24 + k ≡ dirty_of m
+  dirty_back h e f = sym (set_at 24 24 (omega arith) f).0 ∙ behind (first_set 8 12 m) _ 12 8 (unset 8 12 (omega arith) e)
+
+  pub clean : length m ≡ Codes.HEADER-LEN → Found m 8 12 None → Found m 24 24 None → 48 ≡ dirty_of m
+  clean h e f = sym (unset 24 24 (omega arith) f) ∙ behind (first_set 8 12 m) _ 12 8 (unset 8 12 (omega arith) e)
 
 -- ## What it finds
 

@@ -6,8 +6,8 @@ ghost use Rattle.messages.specs.Messages.{reply_head, ret_submit, ret_unlink};
 ghost use Rattle.ground.specs.Writing.{Wrote};
 
 use ground::writing::write;
-use wire::codes::{HEADER_LEN, OP_LEN, RET_SUBMIT, RET_UNLINK, VERSION, WORDS};
-use wire::number::{bytes2, bytes4};
+use wire::codes::{OP_LEN, RET_SUBMIT, RET_UNLINK, VERSION, WORDS};
+use wire::number::BigEndian;
 
 // The fields of a USBIP_RET_SUBMIT that aren't 0: actual is actual_length, start start_frame, packets number_of_packets, errors
 // error_count.
@@ -32,31 +32,18 @@ pub struct RetUnlink {
 pub fn reply_head(code: u16, status: u32) -> [u8; OP_LEN]
     ensures { result ≡ reply_head code status }
 {
-    let v = bytes2(VERSION);
-    let c = bytes2(code);
-    let s = bytes4(status);
+    let v = VERSION.to_bytes();
+    let c = code.to_bytes();
+    let s = status.to_bytes();
     [v[0], v[1], c[0], c[1], s[0], s[1], s[2], s[3]]
 }
 
 // A header from its twelve words.
-fn header_bytes(words: [u32; WORDS]) -> [u8; HEADER_LEN]
-    ensures { result ≡ joined (bytes_of 4) words }
-{
-    let mut out = [0u8; HEADER_LEN];
-    let mut i = 0;
-    while i < WORDS {
-        let w = bytes4(words[i]);
-        write(&mut out[i * 4..], &w);
-        i += 1;
-    }
-    out
-}
-
 fn write_header(out: &mut [u8], words: [u32; WORDS]) -> usize
     ensures { Wrote (joined (bytes_of 4) words) out.old out.new result }
 {
-    let header = header_bytes(words);
-    write(out, &header)
+    let header = words.map(u32::to_bytes);
+    write(out, header.as_flattened())
 }
 
 // Writes a USBIP_RET_SUBMIT at the front of a buffer, if it has room, and answers how many bytes it wrote.

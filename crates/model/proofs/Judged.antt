@@ -18,8 +18,10 @@ use Rattle.messages.proofs.Headers.{request_stays, unlink-seqnum}
 use Rattle.messages.proofs.Padding.{dirty_place}
 use Rattle.exports.specs.declared.device.Table.{Table}
 use Rattle.lookup.specs.Lookup.{find_in}
-use Rattle.lookup.specs.declared.Found.{Found}
-use Rattle.lookup.specs.declared.Found.TheVariants.{At, Nothing}
+use Rattle.std.specs.Prelude.{Option as Maybe, Some, None}
+use Rattle.verdicts.specs.Numbers.{fault_number}
+use Rattle.verdicts.specs.declared.verdict.FaultKind.{FaultKind}
+use Rattle.verdicts.specs.declared.verdict.FaultKind.TheVariants.{BadCommand, BadDirection, BadLength, BadPackets, SeqnumPending, DirtyPadding, BadDevid}
 use Rattle.lookup.proofs.First.{find_first}
 use Rattle.pending.specs.Pending.{ticket_of, seqnum_of, find_by}
 use Rattle.pending.specs.declared.urb.Urb.{Urb}
@@ -133,11 +135,11 @@ module _ (t : Table) (devid time : ℕ) (b : Book) (f : Fit Limits.WAITING b) (c
   goes_on : (Codes.OP-LEN ≤ length b.part → GoodRequest b.part × (length b.part < Codes.OP-LEN + Codes.BUSID-LEN)) → Going Limits.WAITING b
   goes_on g = record { request = λ w l. g l; message = λ w l. absurd (w refl) }
 
-  imports-right : (o : Found) → find_in t (busid_of (header b.part)) ≡ o → length b.part ≡ Codes.OP-LEN + Codes.BUSID-LEN → GoodRequest b.part
+  imports-right : (o : Maybe ℕ) → find_in t (busid_of (header b.part)) ≡ o → length b.part ≡ Codes.OP-LEN + Codes.BUSID-LEN → GoodRequest b.part
       → Asked (imports o)
-  imports-right (At i) h l g =
+  imports-right (Some i) h l g =
       ((l, g.0, g.1, inl (refl, i, ((find_first t (busid_of (header b.part))).0 i).0 h)), tt, λ p. differ (cc))
-  imports-right Nothing h l g =
+  imports-right None h l g =
       ((l, g.0, g.1, inr (refl, (find_first t (busid_of (header b.part))).1.0 h)), f.waiting refl, λ p. differ (cc))
 
   requested-right : length b.part ≡ Codes.OP-LEN → Asked (requested now (header b.part))
@@ -194,22 +196,22 @@ free b h devid y c =
 placed : (devid : ℕ) (is : List Item) (h : List ℕ) (f : Fault) → Gives (header_rows_by devid is h) f → Placed h f
 placed devid is h f g =
     given_has (Placed h) (header_rows_by devid is h) f (
-      (λ _. other Limits.BAD-COMMAND refl),
+      (λ _. other BadCommand refl),
       (
-        (λ _. other Limits.BAD-DIRECTION refl),
+        (λ _. other BadDirection refl),
         (
-          (λ _. other Limits.BAD-LENGTH refl),
+          (λ _. other BadLength refl),
           (
-            (λ _. other Limits.BAD-PACKETS refl),
-            ((λ _. other Limits.SEQNUM-PENDING refl), ((λ w _. dirty_place h w.1), ((λ _. other Limits.BAD-DEVID refl), tt))),
+            (λ _. other BadPackets refl),
+            ((λ _. other SeqnumPending refl), ((λ w _. dirty_place h w.1), ((λ _. other BadDevid refl), tt))),
           ),
         ),
       ),
     )
     g
   where
-    other : {A : Type 0} (n : ℕ) → eqb n Limits.DIRTY-PADDING ≡ false → n ≡ Limits.DIRTY-PADDING → A
-    other n d e = absurd (eqb-false n Limits.DIRTY-PADDING d e)
+    other : {A : Type 0} (k : FaultKind) → eqb (fault_number k) Limits.DIRTY-PADDING ≡ false → k ≡ DirtyPadding → A
+    other k d e = absurd (eqb-false (fault_number k) Limits.DIRTY-PADDING d (ap fault_number e))
 
 -- whatever device is attached
 any_devid : (is : List Item) (h : List ℕ) (d e : ℕ) → (header_of h).command ≡ Codes.CMD-SUBMIT → Clear (header_rows_by d is h) → Clear (header_rows_by e is h)

@@ -1,6 +1,7 @@
 -- Each table of tests of the session matches its table of rows by the book.
 use Prim.Native.Nat.{ℕ}
-use mathlib.Core.Path.{◌≡◌, refl, sym, ◌∙◌}
+use native.Mathlib.Omega.{arith}
+use mathlib.Core.Path.{◌≡◌, refl, sym, subst, ◌∙◌}
 use mathlib.Core.Logic.{◌↔◌}
 use mathlib.Core.Bool.{true, false, not, true≢false}
 use mathlib.Core.List.{List}
@@ -21,7 +22,9 @@ use Rattle.verdicts.proofs.Tables
 use Rattle.verdicts.proofs.Tables.{iff_refl, short_read_iff}
 use Rattle.model.specs.State.{Sess, closed}
 use Rattle.model.specs.Judging.{submit_tests_of, header_tests_of}
-use Rattle.model.specs.Acts.{Buffers, feed_tests_of, Kind, Completion, the_transfer, the_packets, kind_fits, completing, completion_tests_of}
+use Rattle.std.specs.Prelude.{is_none, Some}
+use Rattle.verdicts.specs.declared.verdict.Named.{Named}
+use Rattle.model.specs.Acts.{named_by, Buffers, feed_tests_of, Kind, Completion, the_transfer, the_packets, kind_fits, completing, completion_tests_of}
 use Rattle.model.specs.Book.{Book, Item, pending_of, SomePending, NonePending}
 use Rattle.model.specs.Claims.{header, Counted, Holder, Misfit, feed_rows_by, completion_rows_by, header_rows_by, descriptors_at, BadPackets}
 use Rattle.model.specs.Claims.{submit_rows_by, SentAs}
@@ -66,6 +69,14 @@ feed_match s b lent c = rw c (Tables.feed_match b.closed (length lent.work) (len
 pub named-first : (is : List Item) (t : ℕ) → Counted 1 is → urb_at (ticket_place t (pending_of is)) (pending_of is) ≡ find_by ticket_of t (pending_of is)
 named-first is t counted = rw (ticket_placed t (pending_of is) (tickets_rise is counted)) (urb-first ticket_of t (pending_of is))
 
+abbrev named_of : Completion → Urb → Named
+named_of c u =
+    record {
+      length = u.transfer.length;
+      direction = u.transfer.direction;
+      fits = kind_fits c.kind (iso_count u.transfer.packets) u.iso c.actual;
+    }
+
 -- what is asked of the URB that a ticket names, by the book
 module _ (b : Book) (t : ℕ) (counted : Counted 1 b.items) where
   pub the_one : (u : Urb) → find_by ticket_of t (pending_of b.items) ≡ some u → (P : Urb → Type 0) → P u ↔ Holder b.items t P
@@ -79,25 +90,35 @@ module _ (b : Book) (t : ℕ) (counted : Counted 1 b.items) where
             rw e at w.3,
       )
 
-  holder : (o : Option Urb) → find_by ticket_of t (pending_of b.items) ≡ o → not (found o) ≡ false
-      → (P : Transfer → Type 0) → P (the_transfer o) ↔ Holder b.items t (λ u. P u.transfer)
-  holder none h f P = absurd (true≢false f)
-  holder (some u) h f P = the_one u h (λ u. P u.transfer)
+  -- as it is named
+  named_holder : (c : Completion) (o : Option Urb) → find_by ticket_of t (pending_of b.items) ≡ o → (u : Named) → named_by c o ≡ Some u
+      → (P : ℕ → ℕ → Type 0) → P u.length u.direction ↔ Holder b.items t (λ x. P x.transfer.length x.transfer.direction)
+  named_holder c none h u e P = let q : ◌≡◌ {A = ℕ} 0 1 = cc e in absurd (omega arith)
+  named_holder c (some x) h u e P =
+      let q : named_of c x ≡ u = cc e in
+      subst (λ (z : Named). P z.length z.direction ↔ Holder b.items t (λ x. P x.transfer.length x.transfer.direction)) q
+      (the_one x h (λ y. P y.transfer.length y.transfer.direction))
 
   -- a completion doesn't fit it
-  unfitting : (k : Kind) (total : ℕ) (o : Option Urb) → find_by ticket_of t (pending_of b.items) ≡ o → not (found o) ≡ false
-      → (not (kind_fits k (iso_count (the_transfer o).packets) (the_packets o) total) ≡ true) ↔ Holder b.items t (Misfit k total)
-  unfitting k total none h f = absurd (true≢false f)
-  unfitting k total (some u) h f = iff_trans (misfit_iff k total u) (the_one u h (Misfit k total))
+  unfitting : (c : Completion) (o : Option Urb) → find_by ticket_of t (pending_of b.items) ≡ o → (u : Named) → named_by c o ≡ Some u
+      → (not u.fits ≡ true) ↔ Holder b.items t (Misfit c.kind c.actual)
+  unfitting c none h u e = let q : ◌≡◌ {A = ℕ} 0 1 = cc e in absurd (omega arith)
+  unfitting c (some x) h u e =
+      let q : named_of c x ≡ u = cc e in
+      subst (λ (z : Named). (not z.fits ≡ true) ↔ Holder b.items t (Misfit c.kind c.actual)) q
+      (iff_trans (misfit_iff c.kind c.actual x) (the_one x h (Misfit c.kind c.actual)))
+
+missing : {N : Type 0} (c : Completion) (o : Option Urb) → (not (found o) ≡ true) ↔ N → (is_none (named_by c o) ≡ true) ↔ N
+missing c none i = i
+missing c (some u) i = i
 
 pub completion_match : (s : Sess) (b : Book) (c : Completion) → closed s ≡ b.closed → s.pend ≡ pending_of b.items → Counted 1 b.items
     → Match (completion_tests_of s c) (completion_rows_by b c)
 completion_match s b c e p counted =
     let o = find_by ticket_of c.ticket (pending_of b.items) in
     rw (e, p, named-first b.items c.ticket counted)
-    (Tables.completion_match (completing b.closed o c) _ _ _ _ iff_refl (none_iff b.items ticket_of c.ticket)
-    (λ f P. holder b c.ticket counted o refl f (λ u. P u.length u.direction))
-    (λ f. unfitting b c.ticket counted c.kind c.actual o refl f))
+    (Tables.completion_match (completing b.closed o c) _ _ _ _ iff_refl (missing c o (none_iff b.items ticket_of c.ticket))
+    (named_holder b c.ticket counted c o refl) (unfitting b c.ticket counted c o refl))
 
 -- ## The status sent
 

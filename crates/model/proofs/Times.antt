@@ -9,8 +9,7 @@ use lib.ListN.{length, take, drop, get_or, length-map}
 use Rattle.wire.specs.Codes
 use Rattle.messages.specs.Messages.{request_of, body_len, unlink_seqnum}
 use Rattle.messages.specs.declared.message.Header.{Header}
-use Rattle.lookup.specs.declared.Found.{Found}
-use Rattle.lookup.specs.declared.Found.TheVariants.{At as FoundAt, Nothing}
+use Rattle.std.specs.Prelude.{Option as Maybe, Some, None}
 use Rattle.pending.specs.Pending.{ticket_of, seqnum_of, no_urb, tickets, find_by, found, Place, At, Nothing as Nowhere, place_from, place_by, urb_at, without_at}
 use Rattle.pending.specs.declared.urb.Urb.{Urb}
 use Rattle.limits.specs.Limits
@@ -23,7 +22,7 @@ use Rattle.model.specs.Judging.{grow, urb_of, breaks, submit_tests_of, submitted
 use Rattle.model.specs.Judging.{looked_up}
 use Rattle.model.specs.Judging.{imports, request, judge}
 use Rattle.model.specs.Acts.{accepts, between, shuts, drops, attaches, device_of, after, reply_to, Buffers, put, write_reply, feed_bytes, feed_tests_of}
-use Rattle.model.specs.Acts.{refused_feed, done_feed, feed_of, Completion, the_transfer, the_packets, named_place, completion_tests_of, Complete}
+use Rattle.model.specs.Acts.{refused_feed, done_feed, feed_of, Completion, named_by, the_transfer, the_packets, named_place, completion_tests_of, Complete}
 use Rattle.model.specs.Acts.{refused_completion}
 use Rattle.model.specs.Acts.{complete_of, Close, close_of, open_of}
 use Rattle.model.specs.Cut.{step_all, outcome_reply, written, Feeding}
@@ -90,6 +89,10 @@ transfer_untimed (some u) = refl
 packets_untimed : (o : Option Urb) → the_packets (untimed_found o) ≡ the_packets o
 packets_untimed none = refl
 packets_untimed (some u) = refl
+
+named_untimed : (c : Completion) (o : Option Urb) → named_by c (untimed_found o) ≡ named_by c o
+named_untimed c none = refl
+named_untimed c (some u) = refl
 
 tickets-untimed : (us : List Urb) → tickets (map untimed_urb us) ≡ tickets us
 tickets-untimed [] = refl
@@ -166,9 +169,9 @@ module _ (time : ℕ) (s : Sess) where
       at none true = refl
       at none false = refl
 
-  imports-untimed : (f : Found) → untimed_event (imports f) ≡ imports f
-  imports-untimed (FoundAt i) = refl
-  imports-untimed Nothing = refl
+  imports-untimed : (f : Maybe ℕ) → untimed_event (imports f) ≡ imports f
+  imports-untimed (Some i) = refl
+  imports-untimed None = refl
 
   request-untimed : (m : Message) → untimed_event (request s m) ≡ request (untimed s) m
   unfolding request looked_up pick
@@ -302,7 +305,7 @@ complete-untimed s c =
     rw (
       tickets-untimed s.pend,
       at_untimed p s.pend,
-      found-untimed (urb_at p s.pend),
+      named_untimed c (urb_at p s.pend),
       transfer_untimed (urb_at p s.pend),
       packets_untimed (urb_at p s.pend),
       without-untimed p s.pend,

@@ -12,8 +12,7 @@ use Rattle.wire.specs.Codes
 use Rattle.ground.specs.Writing.{over}
 use Rattle.messages.specs.Messages.{body_len, unlink_seqnum, header_of, request_of}
 use Rattle.messages.specs.declared.message.Header.{Header}
-use Rattle.lookup.specs.declared.Found.{Found}
-use Rattle.lookup.specs.declared.Found.TheVariants.{At, Nothing}
+use Rattle.std.specs.Prelude.{Option as Maybe, Some, None}
 use Rattle.replies.specs.Replies.{submit_reply}
 use Rattle.replies.proofs.Laws.{reply-length}
 use Rattle.pending.specs.Pending.{seqnum_of, find_by}
@@ -35,7 +34,7 @@ use Rattle.model.proofs.Growth.{holding, grow_is, grown-room, grow_body, grow-pl
 
 -- ## What is judged when
 
--- Nothing past the header came yet.
+-- None past the header came yet.
 abbrev InFront : Sess → Type 0
 InFront s = place s.link.message ≡ 0
 
@@ -63,9 +62,9 @@ judged_unlink : (s : Sess) (q : ℕ) (u : Option Urb) → InFront s → Judged s
 judged_unlink s q none f = f
 judged_unlink s q (some u) f = f
 
-judged_import : (s : Sess) (f : Found) → Judged s (Judging.imports f)
-judged_import s (At i) = tt
-judged_import s Nothing = tt
+judged_import : (s : Sess) (f : Maybe ℕ) → Judged s (Judging.imports f)
+judged_import s (Some i) = tt
+judged_import s None = tt
 
 module _ (time : ℕ) (s : Sess) (n : s.link.phase ≡ Limits.WAITING → ⊥) where
   announced : Announced s.link.message → Waits s

@@ -15,8 +15,7 @@ use Rattle.exports.specs.declared.device.Device.{Device}
 use Rattle.exports.specs.declared.device.Table.{Table}
 use Rattle.tables.specs.Tables.{good_table}
 use Rattle.lookup.specs.Lookup.{devid_of}
-use Rattle.lookup.specs.declared.Found.{Found}
-use Rattle.lookup.specs.declared.Found.TheVariants.{At, Nothing}
+use Rattle.std.specs.Prelude.{Option as Maybe, Some, None}
 use Rattle.importing.specs.Imports.{import_reply, import_refusal}
 use Rattle.listing.specs.Lists.{list_reply}
 use Rattle.transmit.specs.Part.{wire_length}
@@ -28,6 +27,7 @@ use Rattle.limits.specs.Limits
 use Rattle.ground.specs.Tests.{Test, first, decide, pick}
 use Rattle.verdicts.specs.Verdicts
 use Rattle.verdicts.specs.declared.verdict.Completing.{Completing}
+use Rattle.verdicts.specs.declared.verdict.Named.{Named}
 use Rattle.model.specs.Machine.{Fed, feed}
 use Rattle.model.specs.State.{Message, partly, headed, Sess, closed, with_link, with_pend, in_phase, with_message, with_counts, attached_as, no_message}
 use Rattle.model.specs.State.{header_in, packets_in, End, returned, unlinked, dropped, ended, one_accepted}
@@ -55,9 +55,9 @@ drops s = shuts (with_pend [] (with_link (with_counts (ended dropped (length s.p
 abbrev pub between : Sess → Sess
 between s = with_link (with_message no_message s.link) s
 
-abbrev pub device_of : Table → Found → Device
-device_of t (At i) = get_or (devices_of t) i no_device
-device_of t Nothing = no_device
+abbrev pub device_of : Table → Maybe ℕ → Device
+device_of t (Some i) = get_or (devices_of t) i no_device
+device_of t None = no_device
 
 abbrev pub attaches : Device → Sess → Sess
 attaches d s = with_link (attached_as (devid_of d) s.link) s
@@ -79,9 +79,9 @@ after s (break f ts) = between (drops s)
 
 -- ## The bytes that an event of a feed writes
 
-abbrev pub import_bytes : Table → Found → List ℕ
-import_bytes t (At i) = import_reply (get_or (devices_of t) i no_device)
-import_bytes t Nothing = import_refusal
+abbrev pub import_bytes : Table → Maybe ℕ → List ℕ
+import_bytes t (Some i) = import_reply (get_or (devices_of t) i no_device)
+import_bytes t None = import_refusal
 
 -- The header of the reply to a URB, with a status, an actual length and an error count.
 abbrev pub ret_for : Transfer → (status actual errors : ℕ) → RetSubmit
@@ -170,19 +170,27 @@ abbrev pub kind_fits : Kind → (count : ℕ) → List Packet → (total : ℕ) 
 kind_fits plain count ks total = eqb count 0
 kind_fits (isochronous rs) count ks total = ltb 0 count && results_fit count ks rs total
 
+-- What is asked of the URB that is pending under its ticket.
+abbrev pub named_by : Completion → Option Urb → Maybe Named
+named_by c none = None
+named_by c (some u) =
+    Some
+    (record {
+      length = u.transfer.length;
+      direction = u.transfer.direction;
+      fits = kind_fits c.kind (iso_count u.transfer.packets) u.iso c.actual;
+    })
+
 -- What a completion is judged by; o is what is pending under its ticket.
 abbrev pub completing : Bool → Option Urb → Completion → Completing
 completing closed o c =
     record {
       closed = closed;
       header = length c.header;
-      found = found o;
       status = c.status;
       actual = c.actual;
       payload = length c.payload;
-      length = (the_transfer o).length;
-      direction = (the_transfer o).direction;
-      fits = kind_fits c.kind (iso_count (the_transfer o).packets) (the_packets o) c.actual;
+      urb = named_by c o;
     }
 
 -- The URB that a completion names: its ticket's, found by halving.

@@ -1,5 +1,5 @@
 -- Demand 3: one claim about every list of calls, by the book before each call (PROTOCOL.md, 5 to 7).
-use Rattle.std.specs.Prelude.{ℕ, zero, suc, ◌+◌, ◌*◌, ◌-◌, ◌≤◌, ◌<◌, ◌≡◌, Bool, true, false, cond, ◌⊎◌, eqb, leb, length, take, drop, get_or}
+use Rattle.std.specs.Prelude.{ℕ, zero, suc, ◌+◌, ◌*◌, ◌-◌, ◌≤◌, ◌<◌, ◌≡◌, Bool, true, false, cond, ◌⊎◌, eqb, leb, length, take, drop, get_or, None}
 use mathlib.Core.List.{List, [], ◌∷◌, ◌++◌, map, Memᴰ}
 use Rattle.std.proofs.Math.Option.{Option, none, some}
 use Rattle.std.proofs.lemmas.List.Edits.{sets}
@@ -30,6 +30,7 @@ use Rattle.verdicts.specs.Verdicts
 use Rattle.verdicts.specs.Verdicts.{Not, ShortRead}
 use Rattle.verdicts.specs.declared.verdict.Completing.{Completing}
 use Rattle.verdicts.specs.declared.verdict.Fault.{Fault}
+use Rattle.verdicts.specs.declared.verdict.FaultKind.TheVariants.{DirtyPadding}
 use Rattle.model.specs.State.{partly, headed, Sess, closed, numbers_of, End, returned, unlinked, dropped}
 use Rattle.model.specs.Answers.{Outcome, refused, done, Returned, Event, hungry, list, import, submit, answer, unlink, break, is_hungry}
 use Rattle.model.specs.Judging.{urb_of}
@@ -79,13 +80,10 @@ handed_over c =
     record {
       closed = false;
       header = length c.header;
-      found = false;
       status = c.status;
       actual = c.actual;
       payload = length c.payload;
-      length = 0;
-      direction = 0;
-      fits = false;
+      urb = None;
     }
 
 abbrev pub completion_rows_by : Book → Completion → List (Row ℕ)
@@ -183,7 +181,7 @@ Removes is q st (some t) = (st ≡ minus Codes.ECONNRESET) × ((u : Urb) × Pend
 
 -- A row names the offset of the field that it speaks of; that of 17 names the first byte of an unlink's padding that isn't 0.
 abbrev pub Placed : List ℕ → Fault → Type 0
-Placed h f = f.number ≡ Limits.DIRTY-PADDING → FirstDirty h f.at
+Placed h f = f.kind ≡ DirtyPadding → FirstDirty h f.at
 
 -- A message, with the devid of the device that is attached, in a feed that was given a time.
 abbrev pub RightMessage : (devid time : ℕ) → List Item → List ℕ → Event → Type 0

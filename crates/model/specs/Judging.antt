@@ -10,8 +10,7 @@ use Rattle.packets.specs.Judging.{packets_good}
 use Rattle.packets.specs.Packets.{in_array}
 use Rattle.packets.specs.declared.packet.Packet.{Packet}
 use Rattle.lookup.specs.Lookup.{find_in}
-use Rattle.lookup.specs.declared.Found.{Found}
-use Rattle.lookup.specs.declared.Found.TheVariants.{At, Nothing}
+use Rattle.std.specs.Prelude.{Option as Maybe, Some, None}
 use Rattle.pending.specs.Pending.{ticket_of, seqnum_of, tickets, find_by, found}
 use Rattle.pending.specs.declared.urb.Urb.{Urb}
 use Rattle.limits.specs.Limits
@@ -95,12 +94,12 @@ requested s m =
     (pick (eqb (request_of m).code Codes.OP-REQ-DEVLIST) list hungry)
 
 -- The device that an import names, if the table has it.
-unfoldable pub looked_up : Sess → Found
+unfoldable pub looked_up : Sess → Maybe ℕ
 looked_up s = find_in s.table (busid_of (bytes_in s.link.message))
 
-abbrev pub imports : Found → Event
-imports (At i) = import 0
-imports Nothing = import 1
+abbrev pub imports : Maybe ℕ → Event
+imports (Some i) = import 0
+imports None = import 1
 
 -- An import ends with its busid. (No request gets as far as a header.)
 unfoldable pub request : Sess → Message → Event

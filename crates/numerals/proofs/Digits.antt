@@ -1,14 +1,13 @@
--- The digits are right, and how many there are.
-use Prim.Native.Nat.{ℕ, zero, suc, ◌+◌, ◌-◌, ◌*◌, ◌/◌, ◌%◌, ◌^◌, ◌≤◌, ◌<◌}
-use mathlib.Core.Path.{◌≡◌, refl, sym, ap, ◌∙◌}
+-- The digits are right.
+use Prim.Native.Nat.{ℕ, zero, suc, ◌+◌, ◌-◌, ◌*◌, ◌/◌, ◌%◌, ◌≤◌, ◌<◌}
+use mathlib.Core.Path.{◌≡◌, refl, ◌∙◌}
 use mathlib.Core.Bool.{Bool, true, false}
 use mathlib.Core.List.{List, [], ◌∷◌, ◌++◌, map, map-append}
 use native.Mathlib.Omega.{arith}
-use native.Mathlib.Nat.{div-lt_self, div-add-mod', mod-lt, div-lt_iff_lt-mul, le-div_iff_mul-le, pow-zero, pow-suc}
+use native.Mathlib.Nat.{div-lt_self, div-add-mod', mod-lt, le-div_iff_mul-le}
 use borrow.Author.Tests.{ltb-true, ltb-false, lt-ltb, le-ltb}
 use lib.Dec.{ltb}
-use lib.ListN.{length, take, drop, get_or, set, length-append, length-map}
-use lib.Seq.{append_snoc, set_split, drop_at, length-take-le}
+use lib.ListN.{get_or}
 use Rattle.wire.specs.Codes.{ENODEV}
 use Rattle.wire.specs.Status.{minus}
 use Rattle.numerals.specs.Digits
@@ -81,18 +80,6 @@ module _ (b : ℕ) (two : 2 ≤ b) where
   pub digits-right : (n : ℕ) → Digits.Written b n (Digits.digits b n)
   digits-right n = right-within n n (omega arith)
 
-  -- ## How many there are
-
-  digits-most : (k n : ℕ) → n < b ^ suc k → length (Digits.digits b n) ≤ suc k
-  digits-most zero n h = rw (digits-one n (omega (arith, rw (pow-suc b 0, pow-zero b) at h))) (omega arith)
-  digits-most (suc k) n h = go (ltb n b) refl (digits-most k (n / b))
-    where
-      go : (t : Bool) → ltb n b ≡ t → (n / b < b ^ suc k → length (Digits.digits b (n / b)) ≤ suc k) → length (Digits.digits b n) ≤ suc (suc k)
-      go true e m = rw (digits-one n (ltb-true n b e)) (omega arith)
-      go false e m =
-          rw (digits_more n (ltb-false n b e), length-append (Digits.digits b (n / b)) (n % b ∷ []))
-          (omega (arith, m ((div-lt_iff_lt-mul {k = b} {x = n} {y = b ^ suc k} (omega arith)).1 (rw (pow-suc b (suc k)) at h))))
-
   -- ## As text
 
   pub numeral-one : (n : ℕ) → n < b → Digits.numeral b n ≡ Digits.glyph n ∷ []
@@ -102,34 +89,6 @@ module _ (b : ℕ) (two : 2 ≤ b) where
   pub numeral-more : (n : ℕ) → b ≤ n → Digits.numeral b n ≡ Digits.numeral b (n / b) ++ (Digits.glyph (n % b) ∷ [])
   unfolding Digits.numeral
   numeral-more n h = rw (digits_more n h) (map-append Digits.glyph (Digits.digits b (n / b)) (n % b ∷ []))
-
-  pub numeral-most : (k n : ℕ) → n < b ^ suc k → length (Digits.numeral b n) ≤ suc k
-  unfolding Digits.numeral
-  numeral-most k n h = rw (length-map (Digits.digits b n) Digits.glyph) (digits-most k n h)
-
-  pub numeral_longer : (n : ℕ) → b ≤ n → length (Digits.numeral b n) ≡ length (Digits.numeral b (n / b)) + 1
-  numeral_longer n h = ap length (numeral-more n h) ∙ length-append (Digits.numeral b (n / b)) (Digits.glyph (n % b) ∷ [])
-
-  pub numeral-some : (n : ℕ) → 0 < length (Digits.numeral b n)
-  numeral-some n = go (ltb n b) refl
-    where
-      go : (t : Bool) → ltb n b ≡ t → 0 < length (Digits.numeral b n)
-      go true e = rw (numeral-one n (ltb-true n b e)) (omega arith)
-      go false e = rw (numeral_longer n (ltb-false n b e)) (omega arith)
-
-  -- ## From the last digit to the first, at the end of an array
-
-  module _ (l : List ℕ) (i : ℕ) (some : 0 < i) (inside : i ≤ length l) where
-    put-before : (a : ℕ) → drop (i - 1) (set l (i - 1) a) ≡ a ∷ drop i l
-    put-before a =
-        let s : suc (i - 1) ≡ i = omega arith in
-        rw (set_split l (i - 1) a (omega arith), drop_at (take (i - 1) l) (a ∷ drop (suc (i - 1)) l) (i - 1) (length-take-le (i - 1) l (omega arith)), s)
-
-    pub digit_more : (n : ℕ) → b ≤ n → Digits.numeral b (n / b) ++ drop (i - 1) (set l (i - 1) (Digits.glyph (n % b))) ≡ Digits.numeral b n ++ drop i l
-    digit_more n h = rw (put-before (Digits.glyph (n % b)), numeral-more n h) (sym (append_snoc (Digits.numeral b (n / b)) (Digits.glyph (n % b)) (drop i l)))
-
-    pub digit_last : (n : ℕ) → n < b → drop (i - 1) (set l (i - 1) (Digits.glyph n)) ≡ Digits.numeral b n ++ drop i l
-    digit_last n h = rw (numeral-one n h) (put-before (Digits.glyph n))
 
 -- a reader takes a character for the digit that it was written for
 digit_glyph : (d : ℕ) → d < 16 → Digits.digit_of (Digits.glyph d) ≡ d

@@ -1,3 +1,3 @@
--- The laws of digits and of text that grows.
+-- The laws of digits, and what the libraries write.
 pub mod Digits
-pub mod Texts
+pub mod Numbers

@@ -1,14 +1,10 @@
 -- Numbers as text in ASCII, and what a reader makes of digits.
 use Rattle.std.specs.Prelude.{ℕ, zero, suc, ◌+◌, ◌-◌, ◌*◌, ◌/◌, ◌%◌, ◌<◌, ◌≡◌, cond, List, [], ◌∷◌, ◌++◌, map, ltb, get_or, ℤ, pos, negsuc}
 use Prim.Native.Char.{code}
-use Prim.Native.String.{String}
 use Rattle.wire.specs.Status.{signed_of}
 use Rattle.ground.specs.Lists.{joined}
-
 -- The codes of a text's characters.
-abbrev pub ascii : String → List ℕ
-ascii String.[] = []
-ascii (String.◌∷◌ c cs) = code c ∷ ascii cs
+pub use Rattle.std.specs.Prelude.{codes as ascii}
 
 -- ## Writing
 

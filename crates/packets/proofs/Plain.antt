@@ -4,8 +4,9 @@ use mathlib.Core.Path.{◌≡◌, refl, sym, ◌∙◌}
 use mathlib.Core.Logic.{◌↔◌}
 use mathlib.Core.Bool.{Bool, true, false, and-eq-true_iff}
 use mathlib.Core.List.{List, [], ◌∷◌}
-use native.Mathlib.Nat.{not-suc-le-zero, le_of_suc-le-suc}
+use native.Mathlib.Nat.{le_of_suc-le-suc}
 use native.Mathlib.Omega.{arith}
+use borrow.Author.Count.{below_none}
 use borrow.Author.Tests.{leb-true, eqb-true, le-leb, eq-eqb}
 use lib.Dec.{eqb, leb}
 use lib.ListN.{length}
@@ -19,9 +20,6 @@ use Rattle.packets.specs.Judging.{end_of, follows, ends_well, good_from, packets
 each : (P : ℕ → Type 0) (n : ℕ) → P 0 → ((i : ℕ) → i < n → P (suc i)) → (i : ℕ) → i < suc n → P i
 each P n z s zero h = z
 each P n z s (suc i) h = s i (le_of_suc-le-suc h)
-
-none : (P : ℕ → Type 0) → (i : ℕ) → i < 0 → P i
-none P i h = absurd (not-suc-le-zero h)
 
 -- behind the first packet
 shift : (k : Packet) (ks : List Packet) (i : ℕ) → end_before (end_of k) ks i ≡ end_of (packet_in (k ∷ ks) i)
@@ -54,9 +52,9 @@ ends false len last e = refl
 means : (out : Bool) (len last : ℕ) (ks : List Packet) → good_from out len last ks ≡ true → GoodFrom (out ≡ true) len last ks
 means out len last [] h =
     record {
-      inside = none (λ i. (packet_in [] i).offset + (packet_in [] i).length ≤ len);
-      ordered = none (λ i. end_before last [] i ≤ (packet_in [] i).offset);
-      gapless = λ o. none (λ i. (packet_in [] i).offset ≡ end_before last [] i);
+      inside = below_none (λ i. (packet_in [] i).offset + (packet_in [] i).length ≤ len);
+      ordered = below_none (λ i. end_before last [] i ≤ (packet_in [] i).offset);
+      gapless = λ o. below_none (λ i. (packet_in [] i).offset ≡ end_before last [] i);
       whole = λ o. eqb-true last len (rw o at h);
     }
 means out len last (k ∷ ks) h =

@@ -8,7 +8,8 @@ use native.Mathlib.Omega.{arith}
 use borrow.Author.Tests.{leb-true, leb-false}
 use lib.Dec.{leb}
 use lib.ListN.{length, take, drop, set, replicate, length-append, length-drop, length-replicate, take-append-drop}
-use lib.Seq.{drop-drop, set_at, take_at, take_all, append_snoc, drop-append-le, length-take-le}
+use Rattle.std.proofs.lemmas.List.{drop-replicate}
+use lib.Seq.{take-suc-set, drop-drop, take_at, take_all, drop-append-le, length-take-le}
 use Rattle.wire.specs.Codes.{DESCRIPTOR-LEN, PACKET-OFFSET-AT, PACKET-LENGTH-AT}
 use Rattle.wire.specs.Fields.{field}
 use Rattle.wire.proofs.Heads.{field_stays}
@@ -24,12 +25,6 @@ array_length ks h = simp (length-append, length-replicate) (omega arith)
 -- the packets in front are the packets
 pub take_in_array : (ks : List Packet) → take (length ks) (in_array ks) ≡ ks
 take_in_array ks = take_at ks (replicate (MAX-PACKETS - length ks) no_packet) (length ks) refl
-
-array_more : (ks : List Packet) (i : ℕ) (k : Packet) → length ks ≡ i → i < MAX-PACKETS → set (in_array ks) i k ≡ in_array (ks ++ (k ∷ []))
-array_more ks i k e h =
-    let a : MAX-PACKETS - length ks ≡ suc (MAX-PACKETS - suc i) = omega arith in
-    let b : MAX-PACKETS - length (ks ++ (k ∷ [])) ≡ MAX-PACKETS - suc i = rw length-append (omega arith) in
-    rw (a, b, append_snoc) (set_at ks no_packet (replicate (MAX-PACKETS - suc i) no_packet) k i e)
 
 -- ## As many as the count says
 
@@ -62,11 +57,16 @@ packets_snoc (suc n) l =
     (packets_snoc n (drop DESCRIPTOR-LEN l) ∙ ap (λ (k : Packet). packets_of n (drop DESCRIPTOR-LEN l) ++ (k ∷ [])) d)
 
 -- the array, filled in from the front
-pub read_more : (l : List ℕ) (i : ℕ) → i < MAX-PACKETS
-    → set (in_array (packets_of i l)) i (packet_at (i * DESCRIPTOR-LEN) l) ≡ in_array (packets_of (i + 1) l)
-read_more l i h =
-    array_more (packets_of i l) i (packet_at (i * DESCRIPTOR-LEN) l) (packets_length i l) h
-    ∙ ap in_array (sym (packets_snoc i l) ∙ ap (λ (n : ℕ). packets_of n l) (sym (add-one i)))
+pub read_more : (ps : List Packet) (i : ℕ) (l : List ℕ) → i < length ps → take i ps ≡ packets_of i l
+    → take (i + 1) (set ps i (packet_at (i * DESCRIPTOR-LEN) l)) ≡ packets_of (i + 1) l
+read_more ps i l h e = rw add-one (take-suc-set ps i (packet_at (i * DESCRIPTOR-LEN) l) h ∙ rw e (sym (packets_snoc i l)))
+
+pub read_all : (ps : List Packet) (n i : ℕ) (l : List ℕ) → length ps ≡ n → n ≤ i → take i ps ≡ packets_of i l
+    → ps ++ drop n (in_array []) ≡ in_array (packets_of n l)
+read_all ps n i l h m e =
+    let all : ps ≡ packets_of i l = sym (take_all i ps (omega arith)) ∙ e in
+    let k : i ≡ n = sym (ap length all ∙ packets_length i l) ∙ h in
+    rw (all, k, packets_length n l, drop-replicate n MAX-PACKETS no_packet)
 
 -- ## What stands behind the descriptors doesn't change them
 

@@ -6,17 +6,13 @@ use mathlib.Core.Bool.{Bool, true, false, ◌&&◌, true≢false}
 use mathlib.Core.List.{List, [], ◌∷◌, Memᴰ}
 use native.Mathlib.Omega.{arith}
 use lib.Dec.{ltb}
-use lib.ListN.{length, take, get_or, length-map}
-use lib.Seq.{get_or-take, length-take-le}
+use lib.ListN.{length, get_or, length-map}
 use borrow.Author.Tests.{ltb-true, ltb-false, lt-ltb}
 use Rattle.ground.specs.Lists.{Rising}
 use Rattle.halving.specs.declared.Search.{Search}
 use Rattle.halving.specs.Halving.{all_places, unsettled, middle_of, looked, after_looks, binary_digits, halved}
 use Rattle.halving.proofs.Halving.{look_halves, looks_settled, window_settles, halving_inside, halving_locates}
 use Rattle.pending.specs.declared.urb.Urb.{Urb}
-use Rattle.pending.specs.declared.look.Look.{Look}
-use Rattle.pending.specs.declared.look.Key.TheVariants.{Ticket}
-use Rattle.pending.specs.Looks.{no_look, look_for}
 use Rattle.pending.specs.Pending.{ticket_of, tickets, no_urb, Place, At, Nothing, place_by, place_halved, ticket_place, TicketPlaced, TicketInside}
 use Rattle.pending.proofs.Finding.{place-first, place_none, find_none, element}
 
@@ -28,7 +24,7 @@ ticket_at (u ∷ us) (suc i) = ticket_at us i
 
 -- ## The loop: looks are left, and the window isn't empty
 
-pub goes_on : (s : Search) (left : ℕ) → ltb 0 left && unsettled s ≡ true → (0 < left) × (s.low < s.high)
+goes_on : (s : Search) (left : ℕ) → ltb 0 left && unsettled s ≡ true → (0 < left) × (s.low < s.high)
 goes_on s left e = at (ltb 0 left) refl (unsettled s) refl e
   where
     at : (a : Bool) → ltb 0 left ≡ a → (b : Bool) → unsettled s ≡ b → a && b ≡ true → (0 < left) × (s.low < s.high)
@@ -36,29 +32,29 @@ goes_on s left e = at (ltb 0 left) refl (unsettled s) refl e
     at true p false q h = absurd (true≢false (sym h))
     at false p b q h = absurd (true≢false (sym h))
 
-module _ (k n : ℕ) (us : List Urb) where
-  abbrev seen : List ℕ
-  seen = tickets (take n us)
-
+module _ (k : ℕ) (us : List Urb) where
   -- what is left of the looks gives the whole answer
-  abbrev pub Halving : (looks left : ℕ) → Search → Type 0
-  Halving looks left s = (s.high ≤ n) × (after_looks left k seen s ≡ after_looks looks k seen (all_places n))
+  abbrev pub Halving : (left : ℕ) → Search → Type 0
+  Halving left s = (s.high ≤ length us) × (after_looks left k (tickets us) s ≡ halved k (tickets us))
 
-  pub look_more : (looks left : ℕ) (s : Search) → s.low < s.high → 0 < left → Halving looks left s
-      → Halving looks (left - 1) (looked k (ticket_of (get_or us (middle_of s) no_urb)) s)
-  look_more looks zero s h l i = absurd (omega arith)
-  look_more looks (suc left) s h l i =
-      let x : get_or seen (middle_of s) 0 ≡ ticket_of (get_or us (middle_of s) no_urb) =
-      ticket_at (take n us) (middle_of s) ∙ ap ticket_of (get_or-take n us (middle_of s) no_urb (omega (arith, i.0))) in
+  pub look_first : Halving (binary_digits (length us)) (all_places (length us))
+  unfolding halved
+  look_first = (omega arith, rw (length-map us ticket_of) refl)
+
+  pub look_more : (left : ℕ) (s : Search) → ltb 0 left && unsettled s ≡ true → Halving left s
+      → Halving (left - 1) (looked k (ticket_of (get_or us (middle_of s) no_urb)) s)
+  look_more zero s e i = let h = goes_on s 0 e in absurd (omega (arith, h.0))
+  look_more (suc left) s e i =
+      let h = goes_on s (suc left) e in
       let less : suc left - 1 ≡ left = omega arith in
-      let half = look_halves k (ticket_of (get_or us (middle_of s) no_urb)) s h in
-      rw (less, ← x) (omega (arith, i.0, half.high, ap (λ (y : ℕ). (looked k y s).high) x), i.1)
+      let half = look_halves k (ticket_of (get_or us (middle_of s) no_urb)) s h.1 in
+      rw (less, ← (ticket_at us (middle_of s))) (omega (arith, i.0, half.high, ap (λ (y : ℕ). (looked k y s).high) (ticket_at us (middle_of s))), i.1)
 
-  pub look_end : (looks left : ℕ) (s : Search) → ltb 0 left && unsettled s ≡ false → Halving looks left s → s ≡ after_looks looks k seen (all_places n)
-  look_end looks zero s e i = i.1
-  look_end looks (suc left) s e i =
+  pub look_end : (left : ℕ) (s : Search) → ltb 0 left && unsettled s ≡ false → Halving left s → s ≡ halved k (tickets us)
+  look_end zero s e i = i.1
+  look_end (suc left) s e i =
       let shut : unsettled s ≡ false = simp (lt-ltb 0 (suc left) (omega arith)) at e in
-      sym (looks_settled k seen (suc left) s (ltb-false s.low s.high shut)) ∙ i.1
+      sym (looks_settled k (tickets us) (suc left) s (ltb-false s.low s.high shut)) ∙ i.1
 
 -- ## What is found
 
@@ -119,26 +115,7 @@ ticket-settled t us =
     let n : length us - 0 ≡ length us = omega arith in
     rw n at (window_settles t (tickets us) (all_places (length us)))
 
--- ## What is seen of it
-
-module _ (k n : ℕ) (us : List Urb) (s : Search) (fits : n ≤ length us) where
-  -- the search with as many looks as the list's length has binary digits is the whole of it
-  pub whole_search : (d : ℕ) → d ≡ binary_digits n → s ≡ after_looks d k (tickets (take n us)) (all_places n) → s ≡ halved k (tickets (take n us))
-  unfolding halved
-  whole_search d e h =
-      let m : length (tickets (take n us)) ≡ n = length-map (take n us) ticket_of ∙ length-take-le n us fits in
-      rw m (rw e at h)
-
-  module _ (h : s ≡ halved k (tickets (take n us))) where
-    pub found-place : s.found ≡ true → s.low < n
-    found-place f =
-        let w = ticket-inside k (take n us) s.low (rw (← h) (halved_at s s.low (f, refl))) in
-        omega (arith, w.0, length-take-le n us fits)
-
-    pub found_look : s.found ≡ true
-        → let u = get_or us s.low no_urb in
-        ◌≡◌ {A = Look} (record { found = true; place = s.low; ticket = ticket_of u; transfer = u.transfer; iso = u.iso }) (look_for (take n us) (Ticket k))
-    found_look f = rw (← h, f, get_or-take n us s.low no_urb (found-place f))
-
-    pub lost_look : s.found ≡ false → no_look ≡ look_for (take n us) (Ticket k)
-    lost_look f = rw (← h, f)
+pub found_inside : (t : ℕ) (us : List Urb) (s : Search) → s ≡ halved t (tickets us) → s.found ≡ true → s.low < length us
+found_inside t us s e f =
+    let w = halving_inside t (tickets us) (rw e at f) in
+    rw e (omega (arith, w.0, length-map us ticket_of))

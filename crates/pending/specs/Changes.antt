@@ -1,5 +1,5 @@
 -- The changes of the list of pending URBs, as one form: what moves down, what is set, what is blank, and the count.
-use Rattle.std.specs.Prelude.{ℕ, suc, ◌+◌, ◌-◌, Bool, cond, ◌&&◌, List, ◌++◌, map, eqb, ltb, leb, length, take, drop, set}
+use Rattle.std.specs.Prelude.{ℕ, suc, ◌+◌, ◌-◌, cond, ◌&&◌, List, ◌++◌, map, ltb, leb, length, take, drop, set}
 use Rattle.std.proofs.Math.Seq.{paste}
 use Rattle.pending.specs.declared.urb.Urb.{Urb}
 use Rattle.pending.specs.declared.list.Pending.{Pending}
@@ -19,10 +19,6 @@ blanked n us = map (λ u. blank) (take n us) ++ drop n us
 -- The list after a change. (A `set` past the end stores nothing.)
 unfoldable pub changed : Pending → Change → Pending
 changed p c = record { urbs = blanked c.dropped (set (moved c.from c.last p.urbs) c.place c.urb); count = c.count }
-
--- Nothing moves, nothing is set and nothing is blank.
-abbrev pub still : Change → Bool
-still c = eqb c.from 0 && (eqb c.last 0 && (leb MAX-PENDING c.place && eqb c.dropped 0))
 
 -- ## The four changes of a list that has n
 

@@ -1,30 +1,32 @@
 -- What is looked up in the list of pending URBs.
-use Rattle.std.specs.Prelude.{ℕ, true, false, List, get_or, replicate}
+use Rattle.std.specs.Prelude.{ℕ, List, get_or, Option, Some, None}
 use Rattle.pending.specs.declared.urb.Urb.{Urb}
 use Rattle.pending.specs.declared.look.Look.{Look}
 use Rattle.pending.specs.declared.look.Key.{Key}
-use Rattle.pending.specs.declared.look.Key.TheVariants.{Nothing as NoKey, Seqnum, Ticket}
-use Rattle.limits.specs.Limits.{MAX-PACKETS, MAX-PENDING}
-use Rattle.packets.specs.Packets.{no_packet}
-use Rattle.pending.specs.Pending.{ticket_of, seqnum_of, no_transfer, no_urb, Place, At, Nothing, place_by, ticket_place}
+use Rattle.pending.specs.declared.look.Key.TheVariants.{Seqnum, Ticket}
+use Rattle.pending.specs.Pending.{ticket_of, seqnum_of, no_urb, Place, At, Nothing, place_by, ticket_place}
 
--- None was found.
-abbrev pub no_look : Look
-no_look = record { found = false; place = MAX-PENDING; ticket = 0; transfer = no_transfer; iso = replicate MAX-PACKETS no_packet }
+-- A place as the code says it.
+abbrev pub place_option : Place → Option ℕ
+place_option Nothing = None
+place_option (At i) = Some i
 
--- What is seen at a place.
-abbrev pub look_at : List Urb → Place → Look
-look_at us Nothing = no_look
-look_at us (At i) =
-    let u = get_or us i no_urb in
-    record { found = true; place = i; ticket = ticket_of u; transfer = u.transfer; iso = u.iso }
+-- What is seen of the URB at a place.
+abbrev pub seen : ℕ → Urb → Look
+seen i u = record { place = i; ticket = ticket_of u; transfer = u.transfer; iso = u.iso }
+
+abbrev pub look_at : List Urb → Place → Option Look
+look_at us Nothing = None
+look_at us (At i) = Some (seen i (get_or us i no_urb))
 
 -- The first that has a key.
-abbrev pub look_by : (Urb → ℕ) → ℕ → List Urb → Look
+abbrev pub look_by : (Urb → ℕ) → ℕ → List Urb → Option Look
 look_by key k us = look_at us (place_by key k us)
 
 -- A seqnum is looked for from the front, a ticket by halving.
-abbrev pub look_for : List Urb → Key → Look
-look_for us NoKey = no_look
-look_for us (Seqnum q) = look_by seqnum_of q us
-look_for us (Ticket t) = look_at us (ticket_place t us)
+abbrev pub place_for : List Urb → Key → Place
+place_for us (Seqnum q) = place_by seqnum_of q us
+place_for us (Ticket t) = ticket_place t us
+
+abbrev pub look_for : List Urb → Key → Option Look
+look_for us key = look_at us (place_for us key)

@@ -1,15 +1,14 @@
 // The changes of the list of pending URBs.
-ghost use Rattle.std.specs.Prelude.{◌≡◌, suc, ◌-◌, ◌<◌, ◌≤◌, drop, set};
-ghost use Rattle.std.proofs.Math.Seq.{paste};
-ghost use Rattle.limits.specs.Limits.{MAX-PENDING};
-ghost use Rattle.pending.specs.Changes.{moved, blanked, changed, still, keeps, appends, removes, clears};
+ghost use Rattle.std.specs.Prelude.{◌≡◌};
+ghost use Rattle.pending.specs.Changes.{moved, blanked, changed, keeps, appends, removes, clears};
 
-use crate::list::{Pending, lower};
+use crate::list::Pending;
 use crate::urb::Urb;
 use limits::MAX_PENDING;
 
 // A change of the list: the URBs behind place `from`, up to place `last`, move down by one; then a URB is set at a place, where
 // there is such a place; then the first `dropped` places are blank; and the list has `count` URBs.
+// (One record, and a place past the array for none: docs/DECISIONS.md, "One change".)
 #[repr(C)]
 #[derive(Clone, Copy)]
 pub struct Change {
@@ -21,55 +20,21 @@ pub struct Change {
     pub count: usize,
 }
 
-// Those behind place from, up to the last, one place down. (`paste d at s n` has the first n of s in d, from place at on.)
-fn moved_down(urbs: [Urb; MAX_PENDING], from: usize, last: usize) -> [Urb; MAX_PENDING]
-    requires { last < MAX-PENDING }
-    ensures { result ≡ paste urbs from (drop (suc from) urbs) (last - from) }
+// Those behind place from, up to place last, one place down; nothing moves where last is no place.
+pub fn shift_down(urbs: &mut [Urb], from: usize, last: usize)
+    ensures { urbs.new ≡ moved from last urbs.old }
 {
-    let mut out = urbs;
-    let mut i = from;
-    while i < last {
-        let next = i + 1;
-        let u = out[next];
-        out[i] = u;
-        i = next;
+    if from < last && last < urbs.len() {
+        urbs.copy_within(from + 1..=last, from);
     }
-    out
 }
 
-// Nothing moves where last is no place.
-fn move_part(urbs: [Urb; MAX_PENDING], from: usize, last: usize) -> [Urb; MAX_PENDING]
-    ensures { result ≡ moved from last urbs }
+// The first n places blank.
+pub fn blank_first(urbs: &mut [Urb], n: usize)
+    ensures { urbs.new ≡ blanked n urbs.old }
 {
-    if last < MAX_PENDING {
-        return moved_down(urbs, from, last);
-    }
-    urbs
-}
-
-// Past the end nothing is set.
-fn set_at(urbs: [Urb; MAX_PENDING], place: usize, u: Urb) -> [Urb; MAX_PENDING]
-    ensures { result ≡ set urbs place u }
-{
-    let mut out = urbs;
-    if place < MAX_PENDING {
-        out[place] = u;
-    }
-    out
-}
-
-fn blank_first(urbs: [Urb; MAX_PENDING], n: usize) -> [Urb; MAX_PENDING]
-    requires { n ≤ MAX-PENDING }
-    ensures { result ≡ blanked n urbs }
-{
-    let mut out = urbs;
-    let mut i: usize = 0;
-    while i < n {
-        let b = Urb::blank();
-        out[i] = b;
-        i += 1;
-    }
-    out
+    let end = n.min(urbs.len());
+    urbs[..end].fill(Urb::blank());
 }
 
 impl Change {
@@ -83,11 +48,12 @@ impl Change {
             place: MAX_PENDING,
             urb: Urb::blank(),
             dropped: 0,
-            count: count,
+            count,
         }
     }
 
     // One more at the end, where there is room.
+    #[tactic(auto, unfolding(crate::specs::Changes::appends))]
     pub fn append(count: usize, urb: Urb) -> Change
         ensures { result ≡ appends count urb }
     {
@@ -95,33 +61,26 @@ impl Change {
             return Change::keep(count);
         }
         Change {
-            from: 0,
-            last: 0,
             place: count,
-            urb: urb,
-            dropped: 0,
-            count: count + 1,
+            urb,
+            ..Change::keep(count + 1)
         }
     }
 
     // The URB at a place taken out, if there is one: those behind it move down, and the freed place is blank.
+    #[tactic(auto, unfolding(crate::specs::Changes::removes))]
     pub fn remove(count: usize, place: usize) -> Change
         ensures { result ≡ removes count place }
     {
-        if count <= place {
-            return Change::keep(count);
-        }
-        if MAX_PENDING < count {
+        if count <= place || MAX_PENDING < count {
             return Change::keep(count);
         }
         let last = count - 1;
         Change {
             from: place,
-            last: last,
+            last,
             place: last,
-            urb: Urb::blank(),
-            dropped: 0,
-            count: last,
+            ..Change::keep(last)
         }
     }
 
@@ -130,52 +89,23 @@ impl Change {
         ensures { result ≡ clears count }
     {
         Change {
-            from: 0,
-            last: 0,
-            place: MAX_PENDING,
-            urb: Urb::blank(),
             dropped: count,
-            count: 0,
+            ..Change::keep(0)
         }
     }
-}
-
-// Nothing moves, nothing is set and nothing is blank. (So it is with most messages, and the array isn't taken apart for them.)
-fn is_still(c: Change) -> bool
-    ensures { result ≡ still c }
-{
-    if c.from != 0 {
-        return false;
-    }
-    if c.last != 0 {
-        return false;
-    }
-    if c.place < MAX_PENDING {
-        return false;
-    }
-    c.dropped == 0
 }
 
 impl Pending {
     // The list after a change.
-    pub fn changed(self, c: Change) -> Pending
+    pub fn changed(mut self, c: Change) -> Pending
         ensures { result ≡ changed self c }
     {
-        if is_still(c) {
-            return Pending {
-                count: c.count,
-                ..self
-            };
+        shift_down(&mut self.urbs, c.from, c.last);
+        if c.place < MAX_PENDING {
+            self.urbs[c.place] = c.urb;
         }
-        let urbs = self.urbs;
-        let down = move_part(urbs, c.from, c.last);
-        let u = c.urb;
-        let put = set_at(down, c.place, u);
-        let dropped = lower(c.dropped, MAX_PENDING);
-        let blank = blank_first(put, dropped);
-        Pending {
-            urbs: blank,
-            count: c.count,
-        }
+        blank_first(&mut self.urbs, c.dropped);
+        self.count = c.count;
+        self
     }
 }

@@ -1,12 +1,13 @@
 // The list of pending URBs, in an array with a count.
-ghost use Rattle.std.specs.Prelude.{◌≡◌, [], ◌≤◌, min, length, take};
+ghost use Rattle.std.specs.Prelude.{◌≡◌, ◌≤◌, length, take};
 ghost use Rattle.limits.specs.Limits.{MAX-PENDING};
-ghost use Rattle.pending.specs.Pending.{list_of, empty_pending, listing};
+ghost use Rattle.ground.specs.Writing.{over};
+ghost use Rattle.pending.specs.Pending.{list_of, tickets, empty_pending, listing};
 
 use crate::urb::Urb;
 use limits::MAX_PENDING;
 
-// The first count URBs are the list.
+// The first count URBs are the list. (An array and a count: C holds it in a session.)
 #[repr(C)]
 #[derive(Clone, Copy)]
 pub struct Pending {
@@ -14,7 +15,7 @@ pub struct Pending {
     pub count: usize,
 }
 
-// The tickets of a list, and zeros behind them.
+// The tickets of a list, and zeros behind them. (An array and a count: C reads it.)
 #[repr(C)]
 #[derive(Clone, Copy)]
 pub struct Tickets {
@@ -22,39 +23,20 @@ pub struct Tickets {
     pub count: usize,
 }
 
-// The lower of two numbers.
-pub(crate) fn lower(a: usize, b: usize) -> usize
-    ensures { result ≡ min a b }
+// The first n, or all where there are fewer.
+pub fn first(urbs: &[Urb], n: usize) -> &[Urb]
+    ensures { result.now ≡ take n urbs.now }
 {
-    if a < b {
-        return a;
-    }
-    b
+    &urbs[..n.min(urbs.len())]
 }
 
-fn no_tickets() -> Tickets
-    ensures { result ≡ listing [] }
+// The tickets of a list go to the front of `out`; what stands behind them stays. (The bound is the room of `out`, which has a fixed place.)
+pub fn put_tickets(urbs: &[Urb], out: &mut [u64; MAX_PENDING])
+    requires { length urbs.now ≤ MAX-PENDING }
+    ensures { out.new ≡ over (tickets urbs.now) out.old }
 {
-    Tickets {
-        tickets: [0u64; MAX_PENDING],
-        count: 0,
-    }
-}
-
-fn tickets_of(urbs: [Urb; MAX_PENDING], count: usize) -> Tickets
-    requires { count ≤ MAX-PENDING }
-    ensures { result ≡ listing (take count urbs) }
-{
-    let mut out = [0u64; MAX_PENDING];
-    let mut k: usize = 0;
-    while k < count {
-        let u = urbs[k];
-        out[k] = u.ticket;
-        k += 1;
-    }
-    Tickets {
-        tickets: out,
-        count: k,
+    for (i, u) in urbs.iter().enumerate() {
+        out[i] = u.ticket;
     }
 }
 
@@ -63,9 +45,8 @@ impl Pending {
     pub fn empty() -> Pending
         ensures { result ≡ empty_pending }
     {
-        let b = Urb::blank();
         Pending {
-            urbs: [b; MAX_PENDING],
+            urbs: [Urb::blank(); MAX_PENDING],
             count: 0,
         }
     }
@@ -74,18 +55,26 @@ impl Pending {
     pub fn len(self) -> usize
         ensures { (result ≡ length (list_of self)) × (result ≤ MAX-PENDING) }
     {
-        lower(self.count, MAX_PENDING)
+        self.count.min(MAX_PENDING)
+    }
+
+    // The URBs of the list.
+    pub fn as_slice(&self) -> &[Urb]
+        ensures { result.now ≡ list_of self.now }
+    {
+        first(&self.urbs, self.count)
     }
 
     // The tickets of the first n, lowest place first.
     pub fn tickets(self, n: usize) -> Tickets
         ensures { result ≡ listing (take n (list_of self)) }
     {
-        if n == 0 {
-            return no_tickets();
+        let urbs = first(self.as_slice(), n);
+        let mut tickets = [0; MAX_PENDING];
+        put_tickets(urbs, &mut tickets);
+        Tickets {
+            tickets,
+            count: urbs.len(),
         }
-        let count = lower(n, self.len());
-        let urbs = self.urbs;
-        tickets_of(urbs, count)
     }
 }

@@ -1,132 +1,99 @@
 // What is looked up in the list of pending URBs.
-ghost use Rattle.std.specs.Prelude.{◌≡◌, ◌≤◌, take};
-ghost use Rattle.limits.specs.Limits.{MAX-PENDING};
-ghost use Rattle.halving.specs.Halving.{all_places, after_looks};
-ghost use Rattle.pending.specs.declared.look.Key.TheVariants.{Ticket};
-ghost use Rattle.pending.specs.Pending.{ticket_of, seqnum_of, tickets, list_of};
-ghost use Rattle.pending.specs.Looks.{no_look, look_by, look_for};
+ghost use Rattle.std.specs.Prelude.{◌≡◌, ◌==◌, ◌<◌, length, position, IfSome};
+ghost use Rattle.halving.specs.Halving.{halved};
+ghost use Rattle.pending.specs.Pending.{seqnum_of, tickets, ticket_place, list_of};
+ghost use Rattle.pending.specs.Looks.{seen, place_option, place_for, look_for};
 
 use crate::list::Pending;
-use crate::urb::{Urb, no_transfer};
-use halving::{Search, all_places, binary_digits, goes_on, look, middle};
-use limits::{MAX_PACKETS, MAX_PENDING};
+use crate::urb::Urb;
+use halving::{Search, binary_digits};
+use limits::MAX_PACKETS;
 use messages::message::Transfer;
-use packets::packet::{Packet, no_packets};
+use packets::packet::Packet;
 
-// What is looked up: nothing, the URB with a seqnum, the URB with a ticket.
+// What is looked up: the URB with a seqnum, the URB with a ticket.
 #[derive(Clone, Copy)]
 pub enum Key {
-    Nothing,
     Seqnum(u32),
     Ticket(u64),
 }
 
-// The URB that has the key: whether there is one, its place, its ticket, its transfer and its packets; where there is none, the place
-// is MAX_PENDING and the numbers are 0.
+// The URB that has the key: its place, its ticket, its transfer and its packets.
 #[derive(Clone, Copy)]
 pub struct Look {
-    pub found: bool,
     pub place: usize,
     pub ticket: u64,
     pub transfer: Transfer,
     pub iso: [Packet; MAX_PACKETS],
 }
 
-pub fn no_look() -> Look
-    ensures { result ≡ no_look }
-{
-    Look {
-        found: false,
-        place: MAX_PENDING,
-        ticket: 0,
-        transfer: no_transfer(),
-        iso: no_packets(),
-    }
-}
-
-// The first of the list that has a seqnum.
-fn look_seqnum(urbs: [Urb; MAX_PENDING], count: usize, seqnum: u32) -> Look
-    requires { count ≤ MAX-PENDING }
-    ensures { result ≡ look_by seqnum_of seqnum (take count urbs) }
-{
-    let mut i: usize = 0;
-    while i < count {
-        let u = urbs[i];
-        let transfer = u.transfer;
-        if transfer.seqnum == seqnum {
-            let iso = u.iso;
-            return Look {
-                found: true,
-                place: i,
-                ticket: u.ticket,
-                transfer: transfer,
-                iso: iso,
-            };
+impl Look {
+    // What is seen of the URB at a place.
+    pub fn at(place: usize, u: &Urb) -> Look
+        ensures { result ≡ seen place u.now }
+    {
+        Look {
+            place,
+            ticket: u.ticket,
+            transfer: u.transfer,
+            iso: u.iso,
         }
-        i += 1;
     }
-    no_look()
 }
 
-fn ticket_of(u: Urb) -> u64
-    ensures { result ≡ ticket_of u }
+// The place of the first that has a seqnum.
+pub fn place_of_seqnum(urbs: &[Urb], seqnum: u32) -> Option<usize>
+    ensures place { result ≡ position (λ u. seqnum_of u == seqnum) urbs.now }
+    ensures inside { IfSome result (λ i. i < length urbs.now) }
 {
-    u.ticket
+    urbs.iter().position(|u| u.transfer.seqnum == seqnum)
 }
 
-// The search for a ticket in the list, which is in ticket order, with so many looks at most: each reads the ticket of one URB.
-fn halve(urbs: [Urb; MAX_PENDING], count: usize, ticket: u64, looks: usize) -> Search
-    requires { count ≤ MAX-PENDING }
-    ensures { result ≡ after_looks looks ticket (tickets (take count urbs)) (all_places count) }
+// The search for a ticket, by halving: the URBs are in ticket order. Each look reads the ticket of one URB.
+pub fn halve(urbs: &[Urb], ticket: u64) -> Search
+    ensures { result ≡ halved ticket (tickets urbs.now) }
 {
-    let mut s = all_places(count);
-    let mut left = looks;
-    while goes_on(s, left) {
-        let at = middle(s);
-        let u = urbs[at];
-        s = look(s, ticket, ticket_of(u));
+    // A plain loop: it ends once the search is settled, and `left` is what it may still look.
+    let n = urbs.len();
+    let mut left = binary_digits(n);
+    let mut s = Search::all_places(n);
+    while s.goes_on(left) {
+        let at = s.middle();
+        s = s.look(ticket, urbs[at].ticket);
         left -= 1;
     }
     s
 }
 
-// The one of the list that has a ticket, by halving.
-fn look_ticket(urbs: [Urb; MAX_PENDING], count: usize, ticket: u64) -> Look
-    requires { count ≤ MAX-PENDING }
-    ensures { result ≡ look_for (take count urbs) (Ticket ticket) }
+// The place of the one that has a ticket.
+#[tactic(auto, using(crate::proofs::Halving::found_inside))]
+pub fn place_of_ticket(urbs: &[Urb], ticket: u64) -> Option<usize>
+    ensures place { result ≡ place_option (ticket_place ticket urbs.now) }
+    ensures inside { IfSome result (λ i. i < length urbs.now) }
 {
-    let s = halve(urbs, count, ticket, binary_digits(count));
-    if s.found {
-        let place = s.low;
-        let u = urbs[place];
-        let transfer = u.transfer;
-        let iso = u.iso;
-        return Look {
-            found: true,
-            place: place,
-            ticket: u.ticket,
-            transfer: transfer,
-            iso: iso,
-        };
+    let s = halve(urbs, ticket);
+    if s.found { Some(s.low) } else { None }
+}
+
+// The place of the one that has the key.
+fn place_of(urbs: &[Urb], key: Key) -> Option<usize>
+    ensures place { result ≡ place_option (place_for urbs.now key) }
+    ensures inside { IfSome result (λ i. i < length urbs.now) }
+{
+    match key {
+        Key::Seqnum(seqnum) => place_of_seqnum(urbs, seqnum),
+        Key::Ticket(ticket) => place_of_ticket(urbs, ticket),
     }
-    no_look()
 }
 
 impl Pending {
     // The one that has the key.
-    pub fn look(self, key: Key) -> Look
+    #[tactic(auto, using(crate::proofs::Finding::look_unplaced, crate::proofs::Finding::look_placed))]
+    pub fn look(self, key: Key) -> Option<Look>
         ensures { result ≡ look_for (list_of self) key }
     {
-        match key {
-            Key::Nothing => no_look(),
-            Key::Seqnum(q) => {
-                let urbs = self.urbs;
-                look_seqnum(urbs, self.len(), q)
-            }
-            Key::Ticket(t) => {
-                let urbs = self.urbs;
-                look_ticket(urbs, self.len(), t)
-            }
-        }
+        let urbs = self.as_slice();
+        let place = place_of(urbs, key)?;
+        Some(Look::at(place, &urbs[place]))
     }
 }

@@ -1,6 +1,6 @@
 // A pending URB: what a submit said, under its ticket, and when it came.
 ghost use Rattle.std.specs.Prelude.{◌≡◌};
-ghost use Rattle.pending.specs.Pending.{no_transfer, blank};
+ghost use Rattle.pending.specs.Pending.{blank};
 
 use limits::MAX_PACKETS;
 use messages::message::Transfer;
@@ -20,21 +20,6 @@ pub struct Urb {
     pub iso: [Packet; MAX_PACKETS],
 }
 
-pub(crate) fn no_transfer() -> Transfer
-    ensures { result ≡ no_transfer }
-{
-    Transfer {
-        seqnum: 0,
-        direction: 0,
-        ep: 0,
-        flags: 0,
-        length: 0,
-        start: 0,
-        packets: 0,
-        interval: 0,
-    }
-}
-
 impl Urb {
     // What stands in a free place.
     pub fn blank() -> Urb
@@ -42,7 +27,7 @@ impl Urb {
     {
         Urb {
             ticket: 0,
-            transfer: no_transfer(),
+            transfer: Transfer::default(),
             setup: [0u8; SETUP_LEN],
             arrival: 0,
             iso: no_packets(),

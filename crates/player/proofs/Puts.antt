@@ -2,7 +2,7 @@
 use Prim.Native.Nat.{ℕ, ◌+◌, ◌-◌, ◌≤◌}
 use mathlib.Core.Path.{◌≡◌, refl, sym, ◌∙◌}
 use mathlib.Core.Bool.{Bool, true}
-use mathlib.Core.List.{List, [], ◌++◌, append-nil}
+use mathlib.Core.List.{List, ◌++◌}
 use native.Mathlib.Omega.{arith}
 use lib.ListN.{length, take, drop, length-append, length-take, length-drop}
 use lib.Seq.{take_all, length-take-le}
@@ -21,9 +21,6 @@ rest-drop out n = take_all (length out - n) (drop n out) (rw length-drop (omega 
 abbrev pub behind : List ℕ → ℕ → List ℕ → List ℕ
 behind out n ys = take n out ++ (ys ++ drop (length out - n) (drop n out))
 
-pub puts_none : (d : List ℕ) → Puts [] d d 0
-puts_none d = record { within = omega arith; put = λ h. (refl, refl) }
-
 -- by a writer of one line
 pub puts_wrote : (B d x : List ℕ) (n : ℕ) → Wrote B d x n → Puts B d x n
 puts_wrote B d x n w =
@@ -31,10 +28,6 @@ puts_wrote B d x n w =
       within = rw (w.left, w.said, length-append) (omega arith);
       put = λ h. (wrote_count B d x n h w, wrote_all B d x n h w);
     }
-
--- with nothing behind them
-pub puts_alone : {A entry out : List ℕ} {n : ℕ} → Puts A entry out n → Puts (A ++ []) entry out n
-puts_alone {A = A} p = rw (append-nil A) p
 
 module _ {A B entry out ys : List ℕ} {n m : ℕ} (p : Puts A entry out n) (q : Puts B (rest out n) ys m)
     (l : length out ≡ length entry) (k : length ys ≡ length (rest out n)) where

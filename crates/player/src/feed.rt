@@ -1,5 +1,5 @@
 // The stream bytes of a record: fed until they are used up or the session is closed.
-ghost use Rattle.std.specs.Prelude.{ℕ, ◌+◌, ◌≤◌, ◌<◌, cond, ◌||◌, eqb, ◌≡◌, List, length};
+ghost use Rattle.std.specs.Prelude.{ℕ, ◌≡◌, List, length};
 ghost use Rattle.packets.specs.declared.packet.Packet.{Packet};
 ghost use Rattle.pending.specs.declared.list.Tickets.{Tickets};
 ghost use Rattle.model.specs.Cut.{lent};
@@ -18,16 +18,10 @@ use session::state::Session;
 fn is_end(event: Event) -> bool
     ensures { (setup : List ℕ) (iso : List Packet) (dropped : Tickets) → result ≡ ends_stream (event_of event setup iso dropped) }
 {
-    match event {
-        Event::Hungry => false,
-        Event::List => true,
-        Event::Import(status) => status != 0,
-        Event::Submit(_, _, _) => false,
-        Event::Answer(_, _) => false,
-        Event::Unlink(_, _, _) => false,
-        Event::Break(_) => true,
-        Event::Refused(_) => true,
-    }
+    matches!(
+        event,
+        Event::List | Event::Import(1..) | Event::Break(_) | Event::Refused(_)
+    )
 }
 
 // One feed, at time 0: the next session, the bytes consumed, whether nothing more is fed, and how many bytes of lines were put.
@@ -52,30 +46,13 @@ fn feed_once(
 {
     let fed = session.feed(piece, work, reply, 0);
     let answer = fed.answer;
-    let next = fed.session;
-    let event = answer.event;
-    let dropped = fed.dropped;
-    let len = put_feed(traced, answer, dropped, work, reply, out);
+    let len = put_feed(traced, answer, fed.dropped, work, reply, out);
     Told {
-        session: next,
+        session: fed.session,
         consumed: answer.consumed,
-        end: is_end(event),
-        len: len,
+        end: is_end(answer.event),
+        len,
     }
-}
-
-// The next turn: the last is over where nothing more is fed.
-fn next_turn(turn: usize, size: usize, end: bool, at: usize) -> usize
-    requires { turn < size }
-    ensures { (turn < result) × (result ≤ size) × (result ≡ cond (end || eqb at size) size (turn + 1)) }
-{
-    if end {
-        return size;
-    }
-    if at == size {
-        return size;
-    }
-    turn + 1
 }
 
 // All the stream bytes of a record.
@@ -92,18 +69,15 @@ pub(crate) fn play_stream(
 {
     let mut s = session;
     let mut at: usize = 0;
-    let mut turn: usize = 0;
     let mut len: usize = 0;
-    let size = bytes.len();
-    while turn < size {
-        let told = feed_once(s, traced, &bytes[at..size], work, reply, &mut out[len..]);
+    for turn in 0..bytes.len() {
+        let told = feed_once(s, traced, &bytes[at..], work, reply, &mut out[len..]);
         s = told.session;
         at += told.consumed;
         len += told.len;
-        turn = next_turn(turn, size, told.end, at);
+        if told.end || at == bytes.len() {
+            break;
+        }
     }
-    Played {
-        session: s,
-        len: len,
-    }
+    Played { session: s, len }
 }

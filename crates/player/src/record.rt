@@ -1,4 +1,5 @@
-// A record of a tape, played on a session.
+// A record of a tape, played on a session. The session goes by value from act to act, and each buffer is lent by itself: so they stay
+// parameters of their own.
 ghost use Rattle.std.specs.Prelude.{◌≤◌};
 ghost use Rattle.limits.specs.Limits.{MAX-PACKETS};
 ghost use Rattle.results.specs.Results.{results_of};
@@ -40,16 +41,15 @@ fn play_completion(
     let data = device_data();
     let mut header = [0u8; HEADER_ROOM];
     let done = session.complete(ticket, status, actual, &data, &mut header);
-    let answer = done.answer;
-    let next = done.session;
-    let len = put_completion(traced, 0, ticket, actual, answer, &header, out);
+    let len = put_completion(traced, 0, ticket, actual, done.answer, &header, out);
     Played {
-        session: next,
-        len: len,
+        session: done.session,
+        len,
     }
 }
 
-// The same of an isochronous URB, with a result for each packet.
+// The same of an isochronous URB, with a result for each packet. The session has an act for each kind, and what they share is put by
+// `put_completion`. (The bound keeps the sum of a header and its descriptors small.)
 fn play_iso(
     session: Session,
     traced: bool,
@@ -67,12 +67,18 @@ fn play_iso(
     let total = iso_total(results);
     let mut header = [0u8; HEADER_ROOM];
     let done = session.complete_iso(ticket, status, total, results, &data, &mut header);
-    let answer = done.answer;
-    let next = done.session;
-    let len = put_completion(traced, results.count, ticket, total, answer, &header, out);
+    let len = put_completion(
+        traced,
+        results.count,
+        ticket,
+        total,
+        done.answer,
+        &header,
+        out,
+    );
     Played {
-        session: next,
-        len: len,
+        session: done.session,
+        len,
     }
 }
 
@@ -81,13 +87,9 @@ fn play_close(session: Session, out: &mut [u8]) -> Played
     ensures { (b : Buffers) → Plays result (play_close (view_of session) b) b out.old out.new }
 {
     let closed = session.close();
-    let answer = closed.answer;
-    let dropped = closed.dropped;
-    let next = closed.session;
-    let len = close_lines(answer, dropped, out);
     Played {
-        session: next,
-        len: len,
+        session: closed.session,
+        len: close_lines(closed.answer, closed.dropped, out),
     }
 }
 

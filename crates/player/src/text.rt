@@ -6,23 +6,21 @@ ghost use Rattle.pending.specs.declared.list.Tickets.{Tickets};
 ghost use Rattle.events.specs.Answers.{event_of, completion_of};
 ghost use Rattle.player.specs.Prints.{Puts, data_length, data_traces, submit_traces, event_traces, feed_traces, feed_text, completion_text};
 
-use events::answer::{Answer, Completion, Event};
+use events::answer::{Answer, Event, Returned};
 use limits::MAX_PACKETS;
 use lines::replay::{complete_line, feed_lines};
 use messages::message::Transfer;
 use packets::packet::Packet;
 use pending::list::Tickets;
 use traces::{trace_data, trace_feed, trace_header, trace_packets, trace_record, trace_removed};
+use verdicts::verdict::Refusal;
 use wire::codes::{DIR_OUT, SETUP_LEN};
 
 // The first n bytes, or as many as there are.
 pub(crate) fn front(bytes: &[u8], n: usize) -> &[u8]
     ensures { result.now ≡ take n bytes.now }
 {
-    if bytes.len() < n {
-        return bytes;
-    }
-    &bytes[0..n]
+    &bytes[..n.min(bytes.len())]
 }
 
 // How many bytes of data came with a submit.
@@ -30,9 +28,10 @@ fn data_len(direction: u32, length: u32) -> usize
     ensures { result ≡ data_length direction length }
 {
     if direction == DIR_OUT {
-        return length as usize;
+        length as usize
+    } else {
+        0
     }
-    0
 }
 
 // An accepted submit's record and data.
@@ -73,7 +72,7 @@ fn put_beside(a: Answer, work: &[u8], out: &mut [u8]) -> usize
     let iso = a.iso;
     match event {
         Event::Submit(ticket, _, u) => put_submit(ticket, u, setup, iso, work, out),
-        Event::Unlink(_, _, t) => trace_removed(t, out),
+        Event::Unlink(_, _, removed) => trace_removed(removed, out),
         Event::Hungry => 0,
         Event::List => 0,
         Event::Import(_) => 0,
@@ -113,13 +112,13 @@ pub(crate) fn put_feed(
 }
 
 // The lines of a completion of so many packets, with the ticket and the actual length that the device side handed over, and the
-// header that it left.
+// header that it left. (`traced` is a flag, as the definitions have it: `completion_text traced`.)
 pub(crate) fn put_completion(
     traced: bool,
     packets: usize,
     ticket: u64,
     actual: u32,
-    answer: Completion,
+    answer: Result<Returned, Refusal>,
     header: &[u8],
     out: &mut [u8],
 ) -> usize

@@ -8,24 +8,23 @@ use limits::{MAX_DEVICES, MAX_INTERFACES};
 // The bytes of an interface.
 pub const INTERFACE_LEN: usize = 4;
 
-// Each interface as the bytes that a list shows of it.
-fn interface_records(all: [Interface; MAX_INTERFACES]) -> [[u8; INTERFACE_LEN]; MAX_INTERFACES]
-    ensures { result ≡ map interface_record all }
+// An interface as the bytes that a list shows of it.
+fn interface_record(f: Interface) -> [u8; INTERFACE_LEN]
+    ensures { result ≡ interface_record f }
 {
-    let mut out = [[0u8; INTERFACE_LEN]; MAX_INTERFACES];
-    let mut i = 0;
-    while i < MAX_INTERFACES {
-        let f = all[i];
-        let bytes = [
-            f.bInterfaceClass,
-            f.bInterfaceSubClass,
-            f.bInterfaceProtocol,
-            0,
-        ];
-        out[i] = bytes;
-        i += 1;
-    }
-    out
+    [
+        f.bInterfaceClass,
+        f.bInterfaceSubClass,
+        f.bInterfaceProtocol,
+        0,
+    ]
+}
+
+// Each interface of a device.
+fn interface_records(d: Device) -> [[u8; INTERFACE_LEN]; MAX_INTERFACES]
+    ensures { result ≡ records_of d }
+{
+    d.interfaces.map(interface_record)
 }
 
 // The interfaces of each device of a table.
@@ -34,14 +33,5 @@ pub fn table_interfaces(
 ) -> [[[u8; INTERFACE_LEN]; MAX_INTERFACES]; MAX_DEVICES]
     ensures { result ≡ map records_of devices }
 {
-    let mut out = [[[0u8; INTERFACE_LEN]; MAX_INTERFACES]; MAX_DEVICES];
-    let mut i = 0;
-    while i < MAX_DEVICES {
-        let d = devices[i];
-        let all = d.interfaces;
-        let records = interface_records(all);
-        out[i] = records;
-        i += 1;
-    }
-    out
+    devices.map(interface_records)
 }

@@ -1,9 +1,9 @@
 -- How long a reply is, and what it begins with.
-use Prim.Native.Nat.{ℕ, ◌+◌, ◌*◌, ◌≤◌}
-use mathlib.Core.Path.{◌≡◌, ap, ◌∙◌}
+use Prim.Native.Nat.{◌+◌, ◌*◌}
+use mathlib.Core.Path.{◌≡◌, ◌∙◌}
 use mathlib.Core.List.{List, [], ◌∷◌}
 use lib.ListN.{length, take, drop, length-append}
-use lib.Seq.{take_at, drop_at, length-take-le}
+use lib.Seq.{take_at, drop_at}
 use Rattle.wire.specs.Codes.{HEADER-LEN, DESCRIPTOR-LEN, RET-SUBMIT}
 use Rattle.wire.specs.Fields.{u32}
 use Rattle.wire.proofs.Heads.{pack-length}
@@ -35,8 +35,3 @@ reply-header r ks rs = take_at (ret_submit r) (descriptors_of ks rs) HEADER-LEN 
 pub reply_descriptors : (r : RetSubmit) (ks : List Packet) (rs : List PacketResult) → drop HEADER-LEN (submit_reply r ks rs) ≡ descriptors_of ks rs
 unfolding submit_reply
 reply_descriptors r ks rs = drop_at (ret_submit r) (descriptors_of ks rs) HEADER-LEN (header-length r)
-
--- of so many results of a list
-pub written-length : (r : RetSubmit) (ks : List Packet) (rs : List PacketResult) (n : ℕ) → n ≤ length rs
-    → length (submit_reply r ks (take n rs)) ≡ HEADER-LEN + n * DESCRIPTOR-LEN
-written-length r ks rs n h = reply-length r ks (take n rs) ∙ ap (λ (m : ℕ). HEADER-LEN + m * DESCRIPTOR-LEN) (length-take-le n rs h)

@@ -1,15 +1,17 @@
--- As many results as the count says, and their sums, one after the other.
-use Prim.Native.Nat.{ℕ, zero, suc, ◌+◌, ◌-◌, ◌<◌, ◌≤◌}
-use mathlib.Core.Path.{◌≡◌, refl, sym, ap, ◌∙◌}
-use mathlib.Core.Bool.{false, cond, ◌&&◌}
-use mathlib.Core.List.{List, [], ◌∷◌, ◌++◌, append-nil}
-use native.Mathlib.Nat.{zero-add}
+-- As many results as the count says, and what is summed over them.
+use Prim.Native.Nat.{ℕ, ◌+◌, ◌-◌, ◌<◌, ◌≤◌}
+use mathlib.Core.Path.{◌≡◌, refl, sym, ◌∙◌}
+use mathlib.Core.Bool.{Bool, true, false, cond, not, ◌&&◌}
+use mathlib.Core.List.{List, [], ◌∷◌, append-nil}
 use native.Mathlib.Numerals.{add-one}
 use native.Mathlib.Omega.{arith}
 use borrow.Author.Tests.{eq-eqb, ne_eqb}
 use lib.Dec.{eqb}
 use lib.ListN.{length, take, replicate, length-append, length-take, length-replicate}
-use lib.Seq.{take-suc, take_all}
+use lib.Seq.{take-suc}
+use Rattle.std.specs.List.{sum_by, count_by}
+use Rattle.std.proofs.lemmas.List.Sums.{sum_by-cons, sum_by-append, sum_by_push}
+use Rattle.std.proofs.lemmas.List.Folds.{sum_by-replicate}
 use Rattle.limits.specs.Limits.{MAX-PACKETS}
 use Rattle.packets.specs.declared.packet.Packet.{Packet}
 use Rattle.results.specs.declared.Results.{Results}
@@ -27,54 +29,47 @@ results_inside r h =
     let e : r.count - MAX-PACKETS ≡ 0 = omega arith in
     rw e (append-nil (take r.count r.list))
 
--- ## What is summed over results
+-- ## What is summed over results: blank ones add nothing
 
-module _ (f : PacketResult → ℕ) (all : List PacketResult → ℕ) (nil : all [] ≡ 0)
-    (cons : (r : PacketResult) (rs : List PacketResult) → all (r ∷ rs) ≡ f r + all rs) where
-  all_append : (xs ys : List PacketResult) → all (xs ++ ys) ≡ all xs + all ys
-  all_append [] ys = rw nil (sym (zero-add (all ys)))
-  all_append (x ∷ xs) ys = omega (arith, cons x (xs ++ ys), cons x xs, all_append xs ys)
+module _ (f : PacketResult → ℕ) where
+  blank-adds : f no_result ≡ 0 → (r : Results) → sum_by f (results_of r) ≡ sum_by f (take r.count r.list)
+  blank-adds z r =
+      let n = r.count - MAX-PACKETS in
+      rw (sum_by-append f (take r.count r.list) (replicate n no_result), sum_by-replicate f n no_result, z) (omega arith)
 
-  -- one more
-  all_more : (l : List PacketResult) (i : ℕ) → i < length l → all (take i l) + f (result_in l i) ≡ all (take (i + 1) l)
-  all_more l i h =
-      rw (add-one, take-suc l i no_result h)
-      (omega (arith, all_append (take i l) (result_in l i ∷ []), cons (result_in l i) [], nil))
+pub sum-by : (rs : List PacketResult) → sum rs ≡ sum_by (λ r. r.actual) rs
+sum-by [] = refl
+sum-by (r ∷ rs) = rw (sum_by-cons (λ (r : PacketResult). r.actual) r rs, sum-by rs)
 
-pub sum_more : (l : List PacketResult) (i : ℕ) → i < length l → sum (take i l) + (result_in l i).actual ≡ sum (take (i + 1) l)
-sum_more = all_more (λ r. r.actual) sum refl (λ r rs. refl)
+pub sum-counted : (r : Results) → sum (results_of r) ≡ sum (take r.count r.list)
+sum-counted r = sum-by (results_of r) ∙ blank-adds (λ r. r.actual) refl r ∙ sym (sum-by (take r.count r.list))
 
-abbrev pub error_of : PacketResult → ℕ
-error_of r = cond (eqb r.status 0) 0 1
+one_if : (b : Bool) → cond {A = ℕ} b 0 1 ≡ cond (not b) 1 0
+one_if true = refl
+one_if false = refl
 
-pub errors-more : (l : List PacketResult) (i : ℕ) → i < length l → errors (take i l) + error_of (result_in l i) ≡ errors (take (i + 1) l)
-errors-more = all_more error_of errors refl (λ r rs. refl)
-
--- blank ones are no errors
-blank-errors : (n : ℕ) → errors (replicate n no_result) ≡ 0
-blank-errors zero = refl
-blank-errors (suc n) = rw (blank-errors n)
+pub errors-by : (rs : List PacketResult) → errors rs ≡ count_by (λ r. not (eqb r.status 0)) rs
+errors-by [] = refl
+errors-by (r ∷ rs) = rw (sum_by-cons (λ (r : PacketResult). cond (not (eqb r.status 0)) 1 0) r rs, one_if (eqb r.status 0), errors-by rs)
 
 pub errors-counted : (r : Results) → errors (results_of r) ≡ errors (take r.count r.list)
 errors-counted r =
-    all_append error_of errors refl (λ r rs. refl) (take r.count r.list) (replicate (r.count - MAX-PACKETS) no_result)
-    ∙ rw (blank-errors (r.count - MAX-PACKETS)) (omega arith)
+    errors-by (results_of r) ∙ blank-adds (λ r. cond (not (eqb r.status 0)) 1 0) refl r ∙ sym (errors-by (take r.count r.list))
 
-pub errors_full : (r : Results) → length r.list ≡ MAX-PACKETS → MAX-PACKETS ≤ r.count
-    → errors (results_of r) ≡ errors (take MAX-PACKETS r.list)
-errors_full r l h =
-    errors-counted r ∙ ap errors (take_all r.count r.list (omega arith) ∙ sym (take_all MAX-PACKETS r.list (omega arith)))
+-- one more
+pub sum_more : (l : List PacketResult) (i : ℕ) → i < length l → sum (take i l) + (result_in l i).actual ≡ sum (take (i + 1) l)
+sum_more l i h =
+    let f = λ (r : PacketResult). r.actual in
+    rw (sum-by (take i l), sum-by (take (i + 1) l), add-one, take-suc l i no_result h, sum_by_push f (take i l) (result_in l i))
 
 -- ## Test by test
 
-module _ (count : ℕ) (ks : List Packet) (r : Results) (total : ℕ) (l : length r.list ≡ MAX-PACKETS) where
-  pub another_count : (r.count ≡ count → ⊥) → false ≡ results_fit count ks (results_of r) total
+module _ (ks : List Packet) (r : Results) (total : ℕ) (l : length r.list ≡ MAX-PACKETS) where
+  pub another_count : (r.count ≡ length ks → ⊥) → false ≡ results_fit (length ks) ks (results_of r) total
   unfolding results_fit
-  another_count h = rw (results_length r l, ne_eqb r.count count h)
+  another_count h = rw (results_length r l, ne_eqb r.count (length ks) h)
 
-  pub same_count : count ≤ MAX-PACKETS → r.count ≡ count
-      → results_fit count ks (results_of r) total ≡ (all_within ks (take count r.list) && eqb (sum (take count r.list)) total)
+  pub same_count : r.count ≡ length ks
+      → results_fit (length ks) ks (results_of r) total ≡ (all_within ks (results_of r) && eqb (sum (results_of r)) total)
   unfolding results_fit
-  same_count h e =
-      let rs : results_of r ≡ take count r.list = results_inside r (omega arith) ∙ ap (λ (n : ℕ). take n r.list) e in
-      rw (eq-eqb (length (results_of r)) count (results_length r l ∙ e), rs)
+  same_count e = rw (eq-eqb (length (results_of r)) (length ks) (results_length r l ∙ e))

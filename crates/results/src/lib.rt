@@ -1,7 +1,7 @@
 // What the device side says of an isochronous URB's packets, judged and counted. What each is stands in specs/.
 #![tactic(auto)]
 
-ghost use Rattle.std.specs.Prelude.{◌≡◌, cond, ◌^◌, ◌≤◌, ◌<◌, eqb, take, replicate};
+ghost use Rattle.std.specs.Prelude.{◌≡◌, ◌≤◌, length, take, replicate};
 ghost use Rattle.limits.specs.Limits.{MAX-PACKETS};
 ghost use Rattle.results.specs.Results.{packet_result, no_results, results_of, sum, errors, all_within, results_fit};
 
@@ -16,7 +16,7 @@ pub struct PacketResult {
     pub status: u32,
 }
 
-// The first count of the list. A count above MAX_PACKETS fits no URB.
+// The first count of the list. A count above MAX_PACKETS fits no URB. (An array and a count: C hands it in.)
 #[repr(C)]
 #[derive(Clone, Copy)]
 pub struct Results {
@@ -28,107 +28,57 @@ pub struct Results {
 pub fn refused_results(status: u32) -> [PacketResult; MAX_PACKETS]
     ensures { result ≡ replicate MAX-PACKETS (packet_result 0 status) }
 {
-    let each = PacketResult {
-        actual: 0,
-        status: status,
-    };
-    [each; MAX_PACKETS]
+    [PacketResult { actual: 0, status }; MAX_PACKETS]
 }
 
 // What stands in the place of results where there are none.
 pub fn no_results() -> Results
     ensures { result ≡ no_results }
 {
-    let blank = refused_results(0);
     Results {
-        list: blank,
+        list: refused_results(0),
         count: 0,
     }
 }
 
-// A length with room for a sum of MAX_PACKETS of them.
-fn wide(x: u32) -> u64
-    ensures { (result ≡ x) × (result < 2 ^ 32) }
-{
-    x as u64
-}
-
-fn sum_of(list: [PacketResult; MAX_PACKETS], count: usize) -> u64
-    requires { count ≤ MAX-PACKETS }
-    ensures { result ≡ sum (take count list) }
-{
-    let mut total: u64 = 0;
-    let mut i: usize = 0;
-    while i < count {
-        let r = list[i];
-        total += wide(r.actual);
-        i += 1;
+impl Results {
+    // The first count of the list; all of it where the count is above it.
+    pub fn listed(&self) -> &[PacketResult]
+        ensures front { result.now ≡ take self.now.count self.now.list }
+        ensures few { length result.now ≤ MAX-PACKETS }
+    {
+        &self.list[..self.count.min(MAX_PACKETS)]
     }
-    total
-}
 
-fn error_of(status: u32) -> u32
-    ensures { (result ≡ cond (eqb status 0) 0 1) × (result ≤ 1) }
-{
-    if status == 0 {
-        return 0;
+    // In 64 bits, where the sum of MAX_PACKETS numbers of 32 is exact.
+    fn sum(&self) -> u64
+        ensures { result ≡ sum (results_of self.now) }
+    {
+        self.listed().iter().map(|r| r.actual as u64).sum()
     }
-    1
-}
 
-fn errors_of(list: [PacketResult; MAX_PACKETS], count: usize) -> u32
-    requires { count ≤ MAX-PACKETS }
-    ensures { result ≡ errors (take count list) }
-{
-    let mut n: u32 = 0;
-    let mut i: usize = 0;
-    while i < count {
-        let r = list[i];
-        n += error_of(r.status);
-        i += 1;
+    // No actual length is above its packet's.
+    fn all_within(&self, iso: &[Packet]) -> bool
+        requires { self.now.count ≡ length iso.now }
+        ensures { result ≡ all_within iso.now (results_of self.now) }
+    {
+        self.listed()
+            .iter()
+            .zip(iso)
+            .all(|(r, p)| r.actual <= p.length)
     }
-    n
 }
 
 // How many packets have a status that isn't 0.
 pub fn error_count(r: Results) -> u32
     ensures { result ≡ errors (results_of r) }
 {
-    let list = r.list;
-    if r.count < MAX_PACKETS {
-        return errors_of(list, r.count);
-    }
-    errors_of(list, MAX_PACKETS)
+    r.listed().iter().filter(|r| r.status != 0).count() as u32
 }
 
-// No actual length is above its packet's.
-fn all_within(iso: [Packet; MAX_PACKETS], list: [PacketResult; MAX_PACKETS], count: usize) -> bool
-    requires { count ≤ MAX-PACKETS }
-    ensures { result ≡ all_within iso (take count list) }
+// Whether results fit a URB with these packets, where so many bytes were transferred in all.
+pub fn results_fit(iso: &[Packet], r: Results, total: u32) -> bool
+    ensures { result ≡ results_fit (length iso.now) iso.now (results_of r) total }
 {
-    let mut i: usize = 0;
-    while i < count {
-        let p = iso[i];
-        let r = list[i];
-        if p.length < r.actual {
-            return false;
-        }
-        i += 1;
-    }
-    true
-}
-
-// Whether results fit a URB with the first count of these packets, where so many bytes were transferred in all.
-pub fn results_fit(iso: [Packet; MAX_PACKETS], count: usize, r: Results, total: u32) -> bool
-    requires { count ≤ MAX-PACKETS }
-    ensures { result ≡ results_fit count iso (results_of r) total }
-{
-    let list = r.list;
-    if r.count != count {
-        return false;
-    }
-    if !all_within(iso, list, count) {
-        return false;
-    }
-    sum_of(list, count) == total as u64
+    r.count == iso.len() && r.all_within(iso) && r.sum() == total as u64
 }

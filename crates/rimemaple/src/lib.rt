@@ -3,7 +3,7 @@
 #![tactic(auto)]
 
 // A session, and what its acts hand back and answer.
-pub use events::answer::{Answer, Closing, Completion, Event, Inquiry, Opening, Removed};
+pub use events::answer::{Answer, Event, Returned};
 pub use pending::counts::Numbers;
 pub use session::answer::{Closed, Completed, Fed, Inquired, Opened};
 pub use session::state::Session;
@@ -27,11 +27,11 @@ pub use limits::{HEADER_ROOM, REPLY_LEN, WORK_LEN};
 pub use transmit::part;
 pub use wire::codes::{DESCRIPTOR_LEN, HEADER_LEN, OP_LEN};
 
-// Statuses, refusals, and the faults that break a session.
+// Refusals, the faults that break a session, the numbers of both, and statuses.
 pub use limits::{
     BAD_CODE, BAD_COMMAND, BAD_DEVID, BAD_DIRECTION, BAD_LENGTH, BAD_PACKETS, BAD_TABLE,
     BAD_VERSION, DIRTY_PADDING, MISFIT, NOT_PENDING, SEQNUM_PENDING, SESSION_CLOSED, SHORT_BUFFER,
     SHORT_DATA, STATUS_ABOVE_0,
 };
-pub use verdicts::verdict::Fault;
+pub use verdicts::verdict::{Fault, FaultKind, Refusal};
 pub use wire::status::{MINUS_ECONNRESET, MINUS_EINVAL, MINUS_ENODEV, MINUS_ENOMEM};

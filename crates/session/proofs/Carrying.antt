@@ -1,15 +1,14 @@
 -- The struct that a plan leaves when it is carried out.
 use Prim.Native.Nat.{ℕ, ◌≤◌}
 use mathlib.Core.Path.{◌≡◌, sym, ap, subst, ◌∙◌}
-use mathlib.Core.Bool.{cond}
+use Rattle.std.specs.Prelude.{Option as Maybe, Some}
 use borrow.Author.Tests.{eq-eqb, ne_eqb}
 use mathlib.Core.List.{List}
-use lib.ListN.{length, take}
+use lib.ListN.{length}
 use lib.Seq.{sets}
-use Rattle.ground.specs.Writing.{over, Wrote}
-use Rattle.messages.specs.Messages.{iso_count}
+use Rattle.ground.specs.Writing.{Wrote}
 use Rattle.results.specs.declared.PacketResult.{PacketResult}
-use Rattle.replies.specs.Replies.{submit_reply}
+use Rattle.results.specs.declared.Results.{Results}
 use Rattle.ground.proofs.Parts.{wrote_all, wrote_count}
 use Rattle.pending.specs.Changes.{changed, keeps}
 use Rattle.pending.specs.Looks.{look_for}
@@ -29,12 +28,12 @@ use Rattle.events.specs.Answers.{event_of, completion_of, closing_of}
 use Rattle.events.specs.Plans.{reply_bytes, request_bytes, data_of, tickets_dropped}
 use Rattle.events.specs.declared.plan.Plan.{Plan}
 use Rattle.events.specs.declared.plan.RequestPlan.{RequestPlan}
-use Rattle.feeding.specs.Asking.{ask_of}
+use Rattle.feeding.specs.Asking.{ask_of, look_asked}
 use Rattle.feeding.specs.Feeding.{Arrays, Composed}
 use Rattle.feeding.specs.Planning.{message_plan, request_plan}
 use Rattle.feeding.specs.declared.ask.Asked.{Asked}
 use Rattle.feeding.proofs.Acts.{message_composed, request_composed}
-use Rattle.settling.specs.Settling.{completion_plan, given_for, CompletionDone, close_plan, CloseDone}
+use Rattle.settling.specs.Settling.{told, replied, completion_plan, given_for, CompletionDone, close_plan, CloseDone}
 use Rattle.settling.specs.declared.close.ClosePlan.{ClosePlan}
 use Rattle.settling.specs.declared.completion.CompletionPlan.{CompletionPlan}
 use Rattle.settling.specs.declared.completion.Given.{Given}
@@ -64,9 +63,9 @@ module _ (s : Session) (k : Link) (l : Pending) (c : Change) (e : l ≡ changed 
 
 -- the plan of a message, and that of a request
 module _ (s : Session) (piece : List ℕ) (b : Buffers) (time : ℕ) (h : Arrays s.link s.pending) where
-  pub message_planned : (a : Asked) (y : Look) (r : Plan) → (s.link.phase ≡ Limits.WAITING → ⊥)
+  pub message_planned : (a : Asked) (y : Maybe Look) (r : Plan) → (s.link.phase ≡ Limits.WAITING → ⊥)
       → a ≡ ask_of s.link piece
-      → y ≡ look_for (list_of s.pending) a.key
+      → y ≡ look_asked (list_of s.pending) a.key
       → r ≡ message_plan s.link s.pending.count a y piece (length b.work) (length b.reply) time
       → Composed r (reply_bytes r.iso r.reply) s.table s.link s.pending piece b time
   message_planned a y r w e f g =
@@ -147,9 +146,9 @@ module _ (s : Session) (piece : List ℕ) (work reply time : ℕ) where
       → fed_by s r.plan (request_bytes s.table r.reply) ≡ request_fed s piece work reply
   request-fed r = ap (λ (z : RequestPlan). fed_by s z.plan (request_bytes s.table z.reply))
 
-  pub message-value : (a : Asked) (y : Look) (r : Plan) → (s.link.phase ≡ Limits.WAITING → ⊥)
+  pub message-value : (a : Asked) (y : Maybe Look) (r : Plan) → (s.link.phase ≡ Limits.WAITING → ⊥)
       → a ≡ ask_of s.link piece
-      → y ≡ look_for (list_of s.pending) a.key
+      → y ≡ look_asked (list_of s.pending) a.key
       → r ≡ message_plan s.link s.pending.count a y piece work reply time
       → fed_by s r (reply_bytes r.iso r.reply) ≡ feed_value s piece work reply time
   message-value a y r w e f g =
@@ -157,12 +156,12 @@ module _ (s : Session) (piece : List ℕ) (work reply time : ℕ) where
 
 -- ## A completion and a close
 
-module _ (s : Session) (given : Given) (ticket : ℕ) (payload header : List ℕ) (y : Look) (q : CompletionPlan) (w : Whole s.pending)
-    (a : length given.results.list ≡ Limits.MAX-PACKETS) (n : s.link.counts.accepted ≤ Limits.LAST-TICKET)
+module _ (s : Session) (given : Given) (ticket : ℕ) (payload header : List ℕ) (y : Maybe Look) (q : CompletionPlan) (w : Whole s.pending)
+    (a : (r : Results) → given.results ≡ Some r → length r.list ≡ Limits.MAX-PACKETS) (n : s.link.counts.accepted ≤ Limits.LAST-TICKET)
     (f : y ≡ look_for (list_of s.pending) (Ticket ticket))
     (g : q ≡ completion_plan s.link s.pending.count y given (length payload) (length header)) where
   abbrev rs : List PacketResult
-  rs = given.results.list
+  rs = told given.results
 
   abbrev c : Completion
   c = given_for given ticket payload header
@@ -170,11 +169,11 @@ module _ (s : Session) (given : Given) (ticket : ℕ) (payload header : List ℕ
   pub completion_planned : CompletionDone q s.table s.link s.pending rs c
   completion_planned =
       subst (λ (r : CompletionPlan). CompletionDone r s.table s.link s.pending rs c)
-      (sym (g ∙ ap (λ (z : Look). completion_plan s.link s.pending.count z given (length payload) (length header)) f))
+      (sym (g ∙ ap (λ (z : Maybe Look). completion_plan s.link s.pending.count z given (length payload) (length header)) f))
       (completion_composed s.table s.link s.pending given ticket payload header w a n)
 
   pub completes_by : (exit : List ℕ) (l : Pending) → l ≡ changed s.pending q.change
-      → exit ≡ cond q.good (over (submit_reply q.ret q.iso (take (iso_count q.ret.packets) rs)) header) header
+      → exit ≡ replied q.reply q.iso rs header
       → Completes s c exit (record { session = record { table = s.table; link = q.link; pending = l }; answer = q.answer })
   completes_by exit l e h =
       let k = completion_planned in
@@ -192,7 +191,7 @@ module _ (s : Session) (given : Given) (ticket : ℕ) (payload header : List ℕ
   complete-value l e =
       (λ i. record { session = record { table = s.table; link = q.link; pending = e i }; answer = q.answer })
       ∙ ap (λ (r : CompletionPlan). record { session = session_after s r.link r.change; answer = r.answer })
-      (g ∙ ap (λ (z : Look). completion_plan s.link s.pending.count z given (length payload) (length header)) f)
+      (g ∙ ap (λ (z : Maybe Look). completion_plan s.link s.pending.count z given (length payload) (length header)) f)
 
 pub close-value : (s : Session) (q : ClosePlan) (l : Pending) (ts : Tickets)
     → q ≡ close_plan s.link s.pending.count

@@ -1,6 +1,7 @@
 -- The code's own feeds drain a stream as the definitions do.
 use Prim.Native.Nat.{ℕ, ◌+◌}
 use native.Mathlib.Omega.{arith}
+use lib.Dec.{eqb}
 use mathlib.Core.Path.{◌≡◌, refl, sym, ap, subst, ◌∙◌}
 use mathlib.Core.Bool.{Bool, true, false, cond}
 use mathlib.Core.List.{List, [], ◌∷◌, ◌++◌, map, map-append, append_assoc, flatten}
@@ -22,7 +23,10 @@ use Rattle.events.specs.Answers.{event_of, urb_beside, tickets_of, dropped_by}
 use Rattle.events.specs.Plans.{Result}
 use Rattle.events.specs.declared.answer.Event.{Event as Case}
 use Rattle.events.specs.declared.answer.Event.TheVariants.{Hungry, List as Listed, Import, Submit, Answer as Answered, Unlink, Break, Refused}
-use Rattle.events.specs.declared.answer.Removed.TheVariants.{Ticket, Nothing}
+use Rattle.std.specs.Prelude.{Some, None}
+use Rattle.verdicts.specs.Numbers.{refusal_number}
+use Rattle.verdicts.specs.declared.verdict.Refusal.{Refusal}
+use Rattle.verdicts.specs.declared.verdict.Refusal.TheVariants.{ShortBuffer, BadTable, SessionClosed, NotPending, StatusAbove0, Misfit, ShortData}
 use Rattle.feeding.specs.Feeding.{fed_of}
 use Rattle.session.specs.Views.{view_of, fed_as, Tidy}
 use Rattle.session.specs.Acts.{Feeds}
@@ -32,15 +36,30 @@ use Rattle.session.proofs.Run.{one-session}
 
 -- ## An answer of the definitions, as the code has it
 
+-- the refusal that has a number
+abbrev refusal_of : ℕ → Refusal
+refusal_of n =
+    cond (eqb n 1) ShortBuffer (cond (eqb n 2) BadTable (cond (eqb n 3) SessionClosed
+    (cond (eqb n 4) NotPending (cond (eqb n 5) StatusAbove0 (cond (eqb n 6) Misfit ShortData)))))
+
+refusal-of : (r : Refusal) → r ≡ refusal_of (refusal_number r)
+refusal-of ShortBuffer = refl
+refusal-of BadTable = refl
+refusal-of SessionClosed = refl
+refusal-of NotPending = refl
+refusal-of StatusAbove0 = refl
+refusal-of Misfit = refl
+refusal-of ShortData = refl
+
 abbrev case_of : Outcome Event → Case
-case_of (refused n) = Refused n
+case_of (refused n) = Refused (refusal_of n)
 case_of (done Event.hungry) = Hungry
 case_of (done Event.list) = Listed
 case_of (done (Event.import st)) = Import st
 case_of (done (Event.submit u)) = Submit u.ticket u.arrival u.transfer
 case_of (done (Event.answer q st)) = Answered q st
-case_of (done (Event.unlink q st none)) = Unlink q st Nothing
-case_of (done (Event.unlink q st (some t))) = Unlink q st (Ticket t)
+case_of (done (Event.unlink q st none)) = Unlink q st None
+case_of (done (Event.unlink q st (some t))) = Unlink q st (Some t)
 case_of (done (Event.break f ts)) = Break f
 
 case-of : (e : Case) (setup : List ℕ) (iso : List Packet) (ts : Tickets) → e ≡ case_of (event_of e setup iso ts)
@@ -49,10 +68,10 @@ case-of Listed setup iso ts = refl
 case-of (Import st) setup iso ts = refl
 case-of (Submit t a u) setup iso ts = refl
 case-of (Answered q st) setup iso ts = refl
-case-of (Unlink q st (Ticket t)) setup iso ts = refl
-case-of (Unlink q st Nothing) setup iso ts = refl
+case-of (Unlink q st (Some t)) setup iso ts = refl
+case-of (Unlink q st None) setup iso ts = refl
 case-of (Break f) setup iso ts = refl
-case-of (Refused n) setup iso ts = refl
+case-of (Refused r) setup iso ts = ap Refused (refusal-of r)
 
 abbrev noted_as : Note Cut.Answer ℕ Buffers → Noted
 noted_as a =

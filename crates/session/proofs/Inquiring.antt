@@ -13,7 +13,8 @@ use Rattle.ground.specs.Tests.{pick}
 use Rattle.model.specs.Answers.{Outcome, refused, done}
 use Rattle.model.specs.Acts.{stale_of}
 use Rattle.links.specs.Links.{phase_of}
-use Rattle.events.specs.declared.answer.Inquiry.TheVariants.{Listed, Refused}
+use Rattle.std.specs.Prelude.{Ok, Err}
+use Rattle.verdicts.specs.declared.verdict.Refusal.TheVariants.{SessionClosed}
 use Rattle.session.specs.Views.{view_of}
 use Rattle.session.specs.Values.{stale_value}
 use Rattle.session.specs.Acts.{Inquires}
@@ -22,12 +23,12 @@ use Rattle.session.specs.declared.answer.Inquired.{Inquired}
 
 module _ (s : Session) (time limit : ℕ) (ts : Tickets) where
   pub inquires-closed : phase_of s.link s.pending.count ≡ Limits.CLOSED → ts ≡ listing (take 0 (list_of s.pending))
-      → Inquires s time limit (record { answer = Refused Limits.SESSION-CLOSED; stale = ts })
+      → Inquires s time limit (record { answer = Err SessionClosed; stale = ts })
   unfolding stale_of pick
   inquires-closed h e = record { said = rw h; listed = rw h e }
 
   pub inquires_open : (phase_of s.link s.pending.count ≡ Limits.CLOSED → ⊥) → ts ≡ listing (stale_in time limit (list_of s.pending))
-      → Inquires s time limit (record { answer = Listed; stale = ts })
+      → Inquires s time limit (record { answer = Ok tt; stale = ts })
   unfolding stale_of pick
   inquires_open h e =
       let us = stale_in time limit (list_of s.pending) in
@@ -35,13 +36,13 @@ module _ (s : Session) (time limit : ℕ) (ts : Tickets) where
       record { said = rw (o, e, tickets_view us); listed = rw (o, e, length-map us ticket_of) }
 
   pub stale_closed : phase_of s.link s.pending.count ≡ Limits.CLOSED → ts ≡ listing (take 0 (list_of s.pending))
-      → let r : Inquired = record { answer = Refused Limits.SESSION-CLOSED; stale = ts } in
+      → let r : Inquired = record { answer = Err SessionClosed; stale = ts } in
       r ≡ stale_value s time limit
   unfolding stale_value
-  stale_closed h e = rw (eq-eqb _ _ h) (λ i. record { answer = Refused Limits.SESSION-CLOSED; stale = e i })
+  stale_closed h e = rw (eq-eqb _ _ h) (λ i. record { answer = Err SessionClosed; stale = e i })
 
   pub stale_open : (phase_of s.link s.pending.count ≡ Limits.CLOSED → ⊥) → ts ≡ listing (stale_in time limit (list_of s.pending))
-      → let r : Inquired = record { answer = Listed; stale = ts } in
+      → let r : Inquired = record { answer = Ok tt; stale = ts } in
       r ≡ stale_value s time limit
   unfolding stale_value
-  stale_open h e = rw (ne_eqb _ _ h) (λ i. record { answer = Listed; stale = e i })
+  stale_open h e = rw (ne_eqb _ _ h) (λ i. record { answer = Ok tt; stale = e i })

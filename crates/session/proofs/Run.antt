@@ -1,5 +1,6 @@
 -- The run theorem speaks of the code's own sessions.
 use Prim.Native.Nat.{ℕ}
+use native.Mathlib.Omega.{arith}
 use mathlib.Core.Path.{◌≡◌, refl, sym, ap, subst, ◌∙◌}
 use mathlib.Core.Bool.{Bool, true, false}
 use mathlib.Core.List.{List, [], ◌∷◌, map}
@@ -21,14 +22,13 @@ use Rattle.model.proofs.Runs.{every_run}
 use Rattle.model.proofs.Stale.{stale_listed}
 use Rattle.model.proofs.Untouched.{untouched, keeps}
 use Rattle.links.proofs.Tidy.{one_struct}
-use Rattle.events.specs.Plans.{Result}
+use Rattle.events.specs.Plans.{Result as Did}
 use Rattle.events.specs.Answers.{open_answer, event_of, completion_of, closing_of, inquiry_of, tickets_of, dropped_by, listed_by}
 use Rattle.events.specs.declared.answer.Event.{Event as Case}
 use Rattle.events.specs.declared.answer.Event.TheVariants.{Hungry, List as Listed, Import, Submit, Answer as Answered, Unlink, Break, Refused}
-use Rattle.events.specs.declared.answer.Completion.{Completion}
-use Rattle.events.specs.declared.answer.Completion.TheVariants.{Return, Refused as CompletionRefused}
-use Rattle.events.specs.declared.answer.Closing.{Closing}
-use Rattle.events.specs.declared.answer.Closing.TheVariants.{End, Refused as ClosingRefused}
+use Rattle.events.specs.declared.answer.Returned.{Returned}
+use Rattle.std.specs.Prelude.{Result, Ok, Err, ⊤}
+use Rattle.verdicts.specs.declared.verdict.Refusal.{Refusal}
 use Rattle.feeding.specs.Feeding.{fed_of}
 use Rattle.session.specs.Views.{parts_of, view_of, Tidy}
 use Rattle.session.specs.Run.{Act, feeds, completes, closes, call_of, entry_by, next_by, Meets, Run, last_of, kept, is_ready, beside_feed, beside_close, Beside}
@@ -39,7 +39,7 @@ use Rattle.session.specs.declared.state.Session.{Session}
 
 meets : (s : Session) (a : Act) → Meets s a → (entry_by a ≡ entry_of (view_of s) (call_of a)) × (view_of (next_by a) ≡ next_of (view_of s) (call_of a))
 unfolding fed_of
-meets s (feeds piece entry exit time r) h = ((λ i. fed piece (h.said i).event (h.said i).consumed), ap (λ (x : Result). x.next) h.said)
+meets s (feeds piece entry exit time r) h = ((λ i. fed piece (h.said i).event (h.said i).consumed), ap (λ (x : Did). x.next) h.said)
 meets s (completes c header r) h = ((λ i. completed c.ticket (h.said i).answer), ap (λ (x : Complete). x.next) h.said)
 meets s (closes r) h = ((λ i. closing (h.said i).answer), ap (λ (x : Close). x.next) h.said)
 
@@ -76,9 +76,9 @@ beside : (s : Session) (a : Act) (b : Book) → Meets s a → Right (view_of s) 
 unfolding fed_of
 beside s (feeds piece entry exit time r) b h k =
     let f = feed_of (view_of s) entry piece time in
-    ap (λ (x : Result). x.dropped) h.said
+    ap (λ (x : Did). x.dropped) h.said
     ∙ fed-tickets (eqb (view_of s).link.phase Limits.WAITING) s.table s.link.devid time b _ f.event (λ e q. (k.right e q).1)
-    ∙ ap (λ (x : Result). beside_feed b x.event) (sym h.said)
+    ∙ ap (λ (x : Did). beside_feed b x.event) (sym h.said)
 beside s (completes c header r) b h k = tt
 beside s (closes r) b h k =
     h.dropped ∙ closed-tickets b (close_of (view_of s)).answer (λ ts q. (k.accepts ts q).1) ∙ ap (λ (x : Close). beside_close b x.answer) (sym h.said)
@@ -153,33 +153,40 @@ same_struct t u o p acts others a r b q e =
 
 -- ## Refusals
 
-feed_case : (e : Case) (setup : List ℕ) (iso : List Packet) (ts : Tickets) (n : ℕ) → event_of e setup iso ts ≡ refused n → e ≡ Refused n
-feed_case Hungry setup iso ts n h = cc
-feed_case Listed setup iso ts n h = cc
-feed_case (Import st) setup iso ts n h = cc
-feed_case (Submit t a u) setup iso ts n h = cc
-feed_case (Answered q st) setup iso ts n h = cc
-feed_case (Unlink q st r) setup iso ts n h = cc
-feed_case (Break f) setup iso ts n h = cc
-feed_case (Refused m) setup iso ts n h = cc
+-- what is done isn't refused
+never : {A B : Type 0} {x : A} {n : ℕ} → done x ≡ refused n → B
+never h = let q : ◌≡◌ {A = ℕ} 0 1 = cc h in absurd (omega arith)
 
-complete_case : (e : Completion) (n : ℕ) → completion_of e ≡ refused n → e ≡ CompletionRefused n
-complete_case (Return m st) n h = cc
-complete_case (CompletionRefused m) n h = cc
+feed_case : (e : Case) (setup : List ℕ) (iso : List Packet) (ts : Tickets) (n : ℕ) → event_of e setup iso ts ≡ refused n
+    → (r : Refusal) × (e ≡ Refused r)
+feed_case Hungry setup iso ts n h = never h
+feed_case Listed setup iso ts n h = never h
+feed_case (Import st) setup iso ts n h = never h
+feed_case (Submit t a u) setup iso ts n h = never h
+feed_case (Answered q st) setup iso ts n h = never h
+feed_case (Unlink q st r) setup iso ts n h = never h
+feed_case (Break f) setup iso ts n h = never h
+feed_case (Refused r) setup iso ts n h = (r, refl)
 
-close_case : (e : Closing) (ts : Tickets) (n : ℕ) → closing_of e ts ≡ refused n → e ≡ ClosingRefused n
-close_case End ts n h = cc
-close_case (ClosingRefused m) ts n h = cc
+complete_case : (e : Result Returned Refusal) (n : ℕ) → completion_of e ≡ refused n → (r : Refusal) × (e ≡ Err r)
+complete_case (Ok r) n h = never h
+complete_case (Err r) n h = (r, refl)
+
+close_case : (e : Result ⊤ Refusal) (ts : Tickets) (n : ℕ) → closing_of e ts ≡ refused n → (r : Refusal) × (e ≡ Err r)
+close_case (Ok u) ts n h = never h
+close_case (Err r) ts n h = (r, refl)
 
 pub code_refuses : CodeRefuses
 unfolding fed_of
 code_refuses s (feeds piece entry exit time r) n h e =
-    let k = (untouched (view_of s) entry piece time).refuses n (ap (λ (x : Result). x.event) (sym h.said) ∙ e) in (
-      h.same n (feed_case r.answer.event r.answer.setup r.answer.iso r.dropped n e),
-      ap (λ (x : Result). x.buffers) h.said ∙ ap (λ (x : Feeding). x.buffers) k,
-      ap (λ (x : Result). x.consumed) h.said ∙ ap (λ (x : Feeding). x.consumed) k,
+    let k = (untouched (view_of s) entry piece time).refuses n (ap (λ (x : Did). x.event) (sym h.said) ∙ e) in
+    let w = feed_case r.answer.event r.answer.setup r.answer.iso r.dropped n e in (
+      h.same w.0 w.1,
+      ap (λ (x : Did). x.buffers) h.said ∙ ap (λ (x : Feeding). x.buffers) k,
+      ap (λ (x : Did). x.consumed) h.said ∙ ap (λ (x : Feeding). x.consumed) k,
     )
 code_refuses s (completes c header r) n h e =
     let k = (keeps (view_of s) c).complete n (ap (λ (x : Complete). x.answer) (sym h.said) ∙ e) in
-    (h.same n (complete_case r.answer n e), ap (λ (x : Complete). x.header) (h.said ∙ k))
-code_refuses s (closes r) n h e = h.same n (close_case r.answer r.dropped n e)
+    let w = complete_case r.answer n e in
+    (h.same w.0 w.1, ap (λ (x : Complete). x.header) (h.said ∙ k))
+code_refuses s (closes r) n h e = let w = close_case r.answer r.dropped n e in h.same w.0 w.1

@@ -1,5 +1,5 @@
 -- A run of the code's own sessions, and the book kept from the code's own answers.
-use Rattle.std.specs.Prelude.{ℕ, ◌≡◌, Bool, true, false, List, [], ◌∷◌, map}
+use Rattle.std.specs.Prelude.{ℕ, ◌≡◌, Bool, true, false, Result, Ok, Err, ⊤, List, [], ◌∷◌, map}
 use Rattle.exports.specs.declared.device.Table.{Table}
 use Rattle.pending.specs.Pending.{tickets}
 use Rattle.pending.specs.declared.list.Tickets.{Tickets}
@@ -11,8 +11,7 @@ use Rattle.model.specs.Claims.{Holds}
 use Rattle.model.specs.Corollaries.{session_from, book_from}
 use Rattle.model.specs.Stale.{RightInquiry}
 use Rattle.events.specs.Answers.{event_of, completion_of, closing_of, inquiry_of, tickets_of}
-use Rattle.events.specs.declared.answer.Opening.{Opening}
-use Rattle.events.specs.declared.answer.Opening.TheVariants.{Ready, Refused}
+use Rattle.verdicts.specs.declared.verdict.Refusal.{Refusal}
 use Rattle.session.specs.Views.{view_of, Tidy}
 use Rattle.session.specs.Acts.{Opens, Feeds, Completes, Closes, Inquires}
 use Rattle.session.specs.declared.state.Session.{Session}
@@ -62,9 +61,9 @@ abbrev pub kept : Book → List Act → Book
 kept b [] = b
 kept b (a ∷ more) = kept (keep b (entry_by a)) more
 
-abbrev pub is_ready : Opening → Bool
-is_ready Ready = true
-is_ready (Refused n) = false
+abbrev pub is_ready : Result ⊤ Refusal → Bool
+is_ready (Ok u) = true
+is_ready (Err refusal) = false
 
 -- The tickets that stand beside an answer, by the book before it: those of all that is pending beside a break and the end of a
 -- session, else none.

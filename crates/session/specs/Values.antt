@@ -1,7 +1,6 @@
 -- What each act hands back, as one value for each session and each input: what is asked is looked up and planned, and the plan is carried
 -- out on the session. An act by value answers with it, and an act in place leaves it.
-use Rattle.std.specs.Prelude.{ℕ, true, false, cond, List, [], eqb, length}
-use Rattle.results.specs.Results.{no_results}
+use Rattle.std.specs.Prelude.{ℕ, cond, Some, None, Ok, Err, List, [], eqb, length}
 use Rattle.results.specs.declared.Results.{Results}
 use Rattle.ages.specs.Ages.{stale_in}
 use Rattle.pending.specs.Changes.{changed}
@@ -13,7 +12,7 @@ use Rattle.limits.specs.Limits
 use Rattle.links.specs.Links.{phase_of}
 use Rattle.links.specs.declared.link.Link.{Link}
 use Rattle.events.specs.Plans.{reply_bytes, request_bytes, tickets_dropped}
-use Rattle.events.specs.declared.answer.Inquiry.TheVariants.{Listed, Refused}
+use Rattle.verdicts.specs.declared.verdict.Refusal.TheVariants.{SessionClosed}
 use Rattle.events.specs.declared.plan.Plan.{Plan}
 use Rattle.feeding.specs.Feeding.{feed_plan}
 use Rattle.feeding.specs.Planning.{request_plan}
@@ -54,10 +53,10 @@ feed_value s piece work reply time =
 
 -- What is given with a ticket: of a URB that isn't isochronous, and of one that is.
 abbrev pub plain_given : (status actual : ℕ) → Given
-plain_given status actual = record { status = status; actual = actual; plain = true; results = no_results }
+plain_given status actual = record { status = status; actual = actual; results = None }
 
 abbrev pub iso_given : (status total : ℕ) → Results → Given
-iso_given status total results = record { status = status; actual = total; plain = false; results = results }
+iso_given status total results = record { status = status; actual = total; results = Some results }
 
 -- A completion; payload and header are lengths.
 unfoldable pub complete_value : Session → Given → (ticket payload header : ℕ) → Completed
@@ -73,5 +72,5 @@ close_value s =
 -- An inquiry, which leaves the session as it is.
 unfoldable pub stale_value : Session → (time limit : ℕ) → Inquired
 stale_value s time limit =
-    cond (eqb (phase_of s.link s.pending.count) Limits.CLOSED) (record { answer = Refused Limits.SESSION-CLOSED; stale = listing [] })
-    (record { answer = Listed; stale = listing (stale_in time limit (list_of s.pending)) })
+    cond (eqb (phase_of s.link s.pending.count) Limits.CLOSED) (record { answer = Err SessionClosed; stale = listing [] })
+    (record { answer = Ok tt; stale = listing (stale_in time limit (list_of s.pending)) })

@@ -1,12 +1,16 @@
 // The acts of a session: open, feed, complete, close; the inquiry for stale requests; its numbers and its device. Each act takes the session
 // and hands back the next: what must be looked up is asked and looked up once, what will be done is planned from values, and then it is
 // carried out.
-ghost use Rattle.std.specs.Prelude.{ℕ, ◌≡◌, length};
+ghost use Rattle.std.specs.Prelude.{ℕ, ◌≡◌, Some, length};
 ghost use Rattle.limits.specs.Limits;
 ghost use Rattle.results.specs.Results.{results_of};
 ghost use Rattle.model.specs.State.{numbers_of, served_devid};
 ghost use Rattle.model.specs.Acts.{plain, isochronous};
 ghost use Rattle.model.specs.Cut.{lent};
+ghost use Rattle.results.specs.declared.Results.{Results};
+ghost use Rattle.pending.specs.Pending.{list_of};
+ghost use Rattle.links.specs.Links.{phase_of};
+ghost use Rattle.feeding.specs.Asking.{look_asked};
 ghost use Rattle.settling.specs.Settling.{given_for};
 ghost use Rattle.session.specs.Views.{view_of, fresh_session, handed, answer_of};
 ghost use Rattle.session.specs.Values.{request_fed, feed_value, plain_given, iso_given, complete_value, close_value, stale_value};
@@ -16,22 +20,22 @@ use crate::answer::{Closed, Completed, Fed, Inquired, Opened};
 use crate::carry::{copy_body, write_header, write_planned, write_request_reply};
 use crate::state::Session;
 use ages::stale_tickets;
-use events::answer::{Answer, Inquiry, Opening};
+use events::answer::Answer;
 use events::plan::Plan;
 use exports::device::Table;
 use feeding::ask::ask;
 use feeding::message::plan_piece;
 use feeding::request::plan_request;
-use limits::{ATTACHED, BAD_TABLE, CLOSED, SESSION_CLOSED, WAITING};
-use links::guard::phase_of;
-use links::link::fresh_link;
+use limits::{ATTACHED, CLOSED, WAITING};
+use links::link::{Standing, fresh_link};
 use pending::counts::Numbers;
 use pending::list::Pending;
-use pending::look::Key;
-use results::{Results, no_results};
+use pending::look::{Key, Look};
+use results::Results;
 use settling::close::plan_close;
 use settling::completion::{Given, plan_completion};
 use tables::is_good;
+use verdicts::verdict::Refusal;
 
 // A session that nothing was said to yet.
 fn fresh_session(table: Table, phase: u8) -> Session
@@ -64,7 +68,28 @@ fn answer_of(plan: Plan, length: usize) -> Answer
     }
 }
 
+// What a piece asks for is looked up, if it asks.
+fn look_asked(list: Pending, key: Option<Key>) -> Option<Look>
+    ensures { result ≡ look_asked (list_of list) key }
+{
+    match key {
+        None => None,
+        Some(key) => list.look(key),
+    }
+}
+
 impl Session {
+    // The phase, as the acts take it.
+    fn phase(self) -> u8
+        ensures { result ≡ phase_of self.link self.pending.count }
+    {
+        let now = Standing {
+            link: self.link,
+            pending: self.pending.count,
+        };
+        now.phase()
+    }
+
     // A session over a table: waiting, or closed over no devices if the table breaks a rule.
     pub fn open(table: Table) -> Opened
         ensures { Opens table result }
@@ -72,13 +97,13 @@ impl Session {
         if is_good(table) {
             return Opened {
                 session: fresh_session(table, WAITING),
-                answer: Opening::Ready,
+                answer: Ok(()),
             };
         }
         let none = Table { count: 0, ..table };
         Opened {
             session: fresh_session(none, CLOSED),
-            answer: Opening::Refused(BAD_TABLE),
+            answer: Err(Refusal::BadTable),
         }
     }
 
@@ -89,9 +114,12 @@ impl Session {
             → Feeds self piece.now (lent work.old reply.old) (lent work.new reply.new) time result }
         ensures value { result ≡ request_fed self piece.now (length work.old) (length reply.old) }
     {
-        let link = self.link;
         let list = self.pending;
-        let asked = plan_request(self.table, link, list.count, piece, work.len(), reply.len());
+        let now = Standing {
+            link: self.link,
+            pending: list.count,
+        };
+        let asked = plan_request(self.table, now, piece, work.len(), reply.len());
         let plan = asked.plan;
         let said = asked.reply;
         let next = plan.link;
@@ -123,18 +151,12 @@ impl Session {
         }
         let list = self.pending;
         let asked = ask(link, piece);
-        let key = asked.key;
-        let look = list.look(key);
-        let plan = plan_piece(
-            link,
-            list.count,
-            asked,
-            look,
-            piece,
-            work.len(),
-            reply.len(),
-            time,
-        );
+        let look = look_asked(list, asked.key);
+        let now = Standing {
+            link: link,
+            pending: list.count,
+        };
+        let plan = plan_piece(now, asked, look, piece, work.len(), reply.len(), time);
         let next = plan.link;
         let change = plan.change;
         let pending = list.changed(change);
@@ -151,31 +173,31 @@ impl Session {
         }
     }
 
-    // A completion of either kind.
+    // A completion of either kind. (An array inside an Option isn't known to have its type's length.)
     fn settle(self, ticket: u64, given: Given, payload: &[u8], header: &mut [u8]) -> Completed
+        requires { (r : Results) → given.results ≡ Some r → length r.list ≡ Limits.MAX-PACKETS }
         ensures completes { Completes self (given_for given ticket payload.now header.old) header.new result }
         ensures value { result ≡ complete_value self given ticket (length payload.now) (length header.old) }
     {
         let list = self.pending;
-        let link = self.link;
+        let now = Standing {
+            link: self.link,
+            pending: list.count,
+        };
         let look = list.look(Key::Ticket(ticket));
-        let plan = plan_completion(link, list.count, look, given, payload.len(), header.len());
+        let plan = plan_completion(now, look, given, payload.len(), header.len());
         let next = plan.link;
         let change = plan.change;
-        let answer = plan.answer;
-        let ret = plan.ret;
         let iso = plan.iso;
-        let results = given.results;
-        let told = results.list;
         let pending = list.changed(change);
-        write_header(plan.good, ret, iso, told, header);
+        write_header(plan.reply, iso, given.results, header);
         Completed {
             session: Session {
                 link: next,
                 pending: pending,
                 ..self
             },
-            answer: answer,
+            answer: plan.answer,
         }
     }
 
@@ -195,14 +217,13 @@ impl Session {
         let given = Given {
             status: status,
             actual: actual,
-            plain: true,
-            results: no_results(),
+            results: None,
         };
         self.settle(ticket, given, payload, header)
     }
 
     // The same for an isochronous URB, with a result for each packet; total is the sum of their actual lengths. The descriptors stand
-    // behind the header's 48 bytes.
+    // behind the header's 48 bytes. (Two acts, as the rules and the C header have them.)
     pub fn complete_iso(
         self,
         ticket: u64,
@@ -219,8 +240,7 @@ impl Session {
         let given = Given {
             status: status,
             actual: total,
-            plain: false,
-            results: results,
+            results: Some(results),
         };
         self.settle(ticket, given, payload, header)
     }
@@ -230,12 +250,13 @@ impl Session {
         ensures closes { Closes self result }
         ensures value { result ≡ close_value self }
     {
-        let link = self.link;
         let list = self.pending;
-        let plan = plan_close(link, list.count);
+        let plan = plan_close(Standing {
+            link: self.link,
+            pending: list.count,
+        });
         let next = plan.link;
         let change = plan.change;
-        let answer = plan.answer;
         let pending = list.changed(change);
         let dropped = list.tickets(change.dropped);
         Closed {
@@ -244,7 +265,7 @@ impl Session {
                 pending: pending,
                 ..self
             },
-            answer: answer,
+            answer: plan.answer,
             dropped: dropped,
         }
     }
@@ -255,19 +276,17 @@ impl Session {
         ensures inquires { Inquires self time limit result }
         ensures value { result ≡ stale_value self time limit }
     {
-        let link = self.link;
         let list = self.pending;
-        if phase_of(link, list.count) == CLOSED {
-            let none = list.tickets(0);
+        if self.phase() == CLOSED {
             return Inquired {
-                answer: Inquiry::Refused(SESSION_CLOSED),
-                stale: none,
+                answer: Err(Refusal::SessionClosed),
+                stale: list.tickets(0),
             };
         }
-        let stale = stale_tickets(list, time, limit);
+        let listed = Ok(());
         Inquired {
-            answer: Inquiry::Listed,
-            stale: stale,
+            answer: listed,
+            stale: stale_tickets(list, time, limit),
         }
     }
 
@@ -290,10 +309,8 @@ impl Session {
     pub fn devid(self) -> u64
         ensures { result ≡ served_devid (view_of self) }
     {
-        let link = self.link;
-        let list = self.pending;
-        if phase_of(link, list.count) == ATTACHED {
-            return link.devid;
+        if self.phase() == ATTACHED {
+            return self.link.devid;
         }
         0
     }

@@ -1,12 +1,12 @@
 -- A completion and a close of the code are those of the definitions.
 use Prim.Native.Nat.{ℕ, ◌+◌, ◌≤◌, ◌<◌}
 use native.Mathlib.Omega.{arith}
-use mathlib.Core.Path.{◌≡◌, refl, sym, ap, ◌∙◌}
+use mathlib.Core.Path.{◌≡◌, refl, sym, ap, subst, ◌∙◌}
 use mathlib.Core.Bool.{Bool, true, false, cond, ◌&&◌, true≢false}
 use mathlib.Core.List.{List}
 use mathlib.Core.Option.{Option, none, some}
 use lib.Dec.{eqb, ltb}
-use lib.ListN.{length, take}
+use lib.ListN.{length, take, get_or}
 use borrow.Author.Tests.{eqb-true}
 use Rattle.ground.specs.Writing.{over}
 use Rattle.messages.specs.Messages.{iso_count}
@@ -19,7 +19,8 @@ use Rattle.exports.specs.declared.device.Table.{Table}
 use Rattle.transmit.specs.Part.{wire_length}
 use Rattle.pending.specs.Changes.{changed, removes, clears}
 use Rattle.pending.specs.Looks.{look_at}
-use Rattle.pending.specs.Pending.{tickets, found, Place, At, Nothing, ticket_place, urb_at, list_of, Whole}
+use Rattle.std.specs.Prelude.{Option as Maybe, Some, None, is_some}
+use Rattle.pending.specs.Pending.{ticket_of, no_urb, tickets, found, Place, At, Nothing, ticket_place, urb_at, list_of, Whole}
 use Rattle.pending.specs.declared.list.Pending.{Pending}
 use Rattle.pending.specs.declared.look.Look.{Look}
 use Rattle.pending.specs.declared.urb.Urb.{Urb}
@@ -28,6 +29,11 @@ use Rattle.pending.proofs.Laws.{view_length, keep_is, remove_view, remove_count}
 use Rattle.limits.specs.Limits
 use Rattle.ground.specs.Tests.{Test, first, decide, pick}
 use Rattle.verdicts.specs.Verdicts
+use Rattle.verdicts.specs.Numbers.{refusal_number}
+use Rattle.verdicts.specs.declared.verdict.Completing.{Completing}
+use Rattle.verdicts.specs.declared.verdict.Named.{Named}
+use Rattle.verdicts.specs.declared.verdict.Refusal.{Refusal}
+use Rattle.verdicts.proofs.Deciding.{first_numbered}
 use Rattle.verdicts.proofs.Good.{completion_clear}
 use Rattle.model.specs.State
 use Rattle.model.specs.State.{Sess, returned}
@@ -42,7 +48,7 @@ use Rattle.links.proofs.Views.{view_fit, live, live_view}
 use Rattle.links.proofs.Tidy.{none-padded}
 use Rattle.events.specs.Answers.{tickets_of, listed_by}
 use Rattle.events.proofs.Saying.{remove_clean, clear_clean, drops-all, all-dropped, all_listed}
-use Rattle.settling.specs.Settling.{given_for, judged_by, returned_link, refusal_plan, return_plan, completion_plan, CompletionDone}
+use Rattle.settling.specs.Settling.{kind_of_results, kind_of, told, named_look, found_plan, given_for, judged_by, returned_link, refusal_plan, return_plan, completion_plan, CompletionDone}
 use Rattle.settling.specs.Settling.{CompletionComposed, refused_close}
 use Rattle.settling.specs.Settling.{dropping_close, close_plan, CloseDone, CloseComposed}
 use Rattle.settling.specs.declared.completion.Given.{Given}
@@ -58,38 +64,49 @@ and_right true t h = h
 and_right false t h = absurd (true≢false (sym h))
 
 -- what is seen at a place is the URB there
-look_found : (us : List Urb) (p : Place) → (look_at us p).found ≡ found (urb_at p us)
-look_found us (At i) = refl
-look_found us Nothing = refl
+look_named : (given : Given) (c : Acts.Completion) (us : List Urb) (p : Place) → c.kind ≡ kind_of given → c.actual ≡ given.actual
+    → named_look given (look_at us p) ≡ Acts.named_by c (urb_at p us)
+look_named given c us (At i) k a = rw (k, a)
+look_named given c us Nothing k a = refl
 
-look_transfer : (us : List Urb) (p : Place) → (look_at us p).transfer ≡ the_transfer (urb_at p us)
-look_transfer us (At i) = refl
-look_transfer us Nothing = refl
+look_place : (us : List Urb) (p : Place) (seen : Look) → look_at us p ≡ Some seen → p ≡ At seen.place
+look_place us (At i) seen e =
+    let u = get_or us i no_urb in
+    let q : ◌≡◌ {A = Look} (record { place = i; ticket = ticket_of u; transfer = u.transfer; iso = u.iso }) seen = cc e in
+    ap (λ (z : Look). At z.place) q
+look_place us Nothing seen e = let q : ◌≡◌ {A = ℕ} 0 1 = cc e in absurd (omega arith)
 
-look_packets : (us : List Urb) (p : Place) → (look_at us p).found ≡ true → (look_at us p).iso ≡ the_packets (urb_at p us)
-look_packets us (At i) f = refl
-look_packets us Nothing f = absurd (true≢false (sym f))
+look_transfer : (us : List Urb) (p : Place) (seen : Look) → look_at us p ≡ Some seen → seen.transfer ≡ the_transfer (urb_at p us)
+look_transfer us (At i) seen e =
+    let u = get_or us i no_urb in
+    let q : ◌≡◌ {A = Look} (record { place = i; ticket = ticket_of u; transfer = u.transfer; iso = u.iso }) seen = cc e in
+    ap (λ (z : Look). z.transfer) (sym q)
+look_transfer us Nothing seen e = let q : ◌≡◌ {A = ℕ} 0 1 = cc e in absurd (omega arith)
 
-look_place : (us : List Urb) (p : Place) → (look_at us p).found ≡ true → p ≡ At (look_at us p).place
-look_place us (At i) f = refl
-look_place us Nothing f = absurd (true≢false (sym f))
+look_packets : (us : List Urb) (p : Place) (seen : Look) → look_at us p ≡ Some seen → seen.iso ≡ the_packets (urb_at p us)
+look_packets us (At i) seen e =
+    let u = get_or us i no_urb in
+    let q : ◌≡◌ {A = Look} (record { place = i; ticket = ticket_of u; transfer = u.transfer; iso = u.iso }) seen = cc e in
+    ap (λ (z : Look). z.iso) (sym q)
+look_packets us Nothing seen e = let q : ◌≡◌ {A = ℕ} 0 1 = cc e in absurd (omega arith)
 
--- whether a completion fits, too
-look_fits : (k : Kind) (total : ℕ) (us : List Urb) (p : Place)
-    → kind_fits k (iso_count (look_at us p).transfer.packets) (look_at us p).iso total
-    ≡ kind_fits k (iso_count (the_transfer (urb_at p us)).packets) (the_packets (urb_at p us)) total
-look_fits k total us (At i) = refl
-look_fits plain total us Nothing = refl
-look_fits (isochronous rs) total us Nothing = refl
+-- that it fits is said of what was found
+named_it : (given : Given) (it : Look) (u : Named) → named_look given (Some it) ≡ Some u
+    → kind_fits (kind_of given) (iso_count it.transfer.packets) it.iso given.actual ≡ u.fits
+named_it given it u e =
+    let t = it.transfer in
+    let q : ◌≡◌ {A = Named}
+    (record { length = t.length; direction = t.direction; fits = kind_fits (kind_of given) (iso_count t.packets) it.iso given.actual }) u = cc e in
+    ap (λ (z : Named). z.fits) q
 
 -- of a completion that fits, as many results as the URB has packets are all there are
-all_sent : (p : Bool) (r : Results) (n : ℕ) (ks : List Packet) (total : ℕ) → length r.list ≡ Limits.MAX-PACKETS → n ≤ Limits.MAX-PACKETS
-    → let k = cond p plain (isochronous (results_of r)) in kind_fits k n ks total ≡ true → take n r.list ≡ results_in k
+all_sent : (rs : Maybe Results) (n : ℕ) (ks : List Packet) (total : ℕ) → ((r : Results) → rs ≡ Some r → length r.list ≡ Limits.MAX-PACKETS)
+    → n ≤ Limits.MAX-PACKETS → kind_fits (kind_of_results rs) n ks total ≡ true → take n (told rs) ≡ results_in (kind_of_results rs)
 unfolding results_fit
-all_sent true r n ks total l m f = rw (eqb-true n 0 f)
-all_sent false r n ks total l m f =
+all_sent None n ks total l m f = rw (eqb-true n 0 f)
+all_sent (Some r) n ks total l m f =
     let fit = and_right (ltb 0 n) _ f in
-    let e : r.count ≡ n = sym (results_length r l) ∙ eqb-true (length (results_of r)) n (and_left _ _ fit) in
+    let e : r.count ≡ n = sym (results_length r (l r refl)) ∙ eqb-true (length (results_of r)) n (and_left _ _ fit) in
     ap (λ i. take i r.list) (sym e) ∙ sym (results_inside r (omega (arith, e)))
 
 -- as the definitions have it
@@ -123,58 +140,62 @@ module _ (t : Table) (k : Link) (l : Pending) (given : Given) (ticket : ℕ) (pa
   abbrev where_is : Place
   where_is = ticket_place c.ticket (list_of l)
 
-  abbrev look : Look
+  abbrev look : Maybe Look
   look = look_at (list_of l) where_is
 
-  abbrev tests : List (Test ℕ)
-  tests = Verdicts.completion_tests (judged_by (phase_of k l.count) look given (length c.payload) (length c.header))
+  abbrev seen : Completing
+  seen = judged_by (phase_of k l.count) look given (length c.payload) (length c.header)
+
+  abbrev tests : List (Test Refusal)
+  tests = Verdicts.completion_refusals seen
 
   -- the code judges by what the definitions judge by
-  judged : tests ≡ Acts.completion_tests_of (view_of_parts s) c
+  judged : Verdicts.completion_tests seen ≡ Acts.completion_tests_of (view_of_parts s) c
   judged =
-      let u = look_transfer (list_of l) where_is in
       λ i.
       Verdicts.completion_tests
       (record {
         closed = eqb (phase_of k l.count) Limits.CLOSED;
         header = length c.header;
-        found = look_found (list_of l) where_is i;
         status = c.status;
         actual = c.actual;
         payload = length c.payload;
-        length = (u i).length;
-        direction = (u i).direction;
-        fits = look_fits c.kind c.actual (list_of l) where_is i;
+        urb = look_named given c (list_of l) where_is refl refl i;
       })
 
-  refused-done : (n : ℕ) → first tests ≡ some n → CompletionDone (refusal_plan k l.count look given n) t k l given.results.list c
-  refused-done n f =
+  -- with their numbers
+  numbers : first (Acts.completion_tests_of (view_of_parts s) c) ≡ decide (first tests) (λ r. some (refusal_number r)) none
+  numbers = ap first (sym judged) ∙ first_numbered refusal_number tests
+
+  refused-done : (r : Refusal) → first tests ≡ some r → CompletionDone (refusal_plan k l.count r) t k l (told given.results) c
+  unfolding decide
+  refused-done r f =
       record {
         fits = λ e. absurd (true≢false (sym e));
-        done = rw (keep_is l w) (sym (complete-refused (view_of_parts s) c n (ap first (sym judged) ∙ f)));
-        same = λ n e. (refl, refl);
+        done = rw (keep_is l w) (sym (complete-refused (view_of_parts s) c (refusal_number r) (numbers ∙ rw f)));
+        same = λ _ _. (refl, refl);
         tidy = λ h. rw (keep_is l w) h;
       }
 
   -- one less is pending, and one more returned
-  module _ (b : k.counts.accepted ≤ Limits.LAST-TICKET) (v : Live s) (f : look.found ≡ true) where
+  module _ (b : k.counts.accepted ≤ Limits.LAST-TICKET) (v : Live s) (it : Look) (f : look ≡ Some it) where
     abbrev left : Pending
-    left = changed l (removes l.count look.place)
+    left = changed l (removes l.count it.place)
 
     known : (l.count ≤ Limits.MAX-PENDING) × (k.counts.accepted ≡ l.count + k.counts.returned + k.counts.unlinked + k.counts.dropped)
     known = counts_known k.counts l.count v.0
 
-    placed : (where_is ≡ At look.place) × (look.place < l.count)
+    placed : (where_is ≡ At it.place) × (it.place < l.count)
     placed =
-        let p = look_place (list_of l) where_is f in
-        (p, omega (arith, (ticket-inside c.ticket (list_of l) look.place p).0, view_length l w known.0))
+        let p = look_place (list_of l) where_is it f in
+        (p, omega (arith, (ticket-inside c.ticket (list_of l) it.place p).0, view_length l w known.0))
 
     counted : plus k.counts.returned 1 ≡ k.counts.returned + 1
     counted = plus-fits k.counts.returned 1 k.counts.accepted b (omega (arith, placed.1, known.1))
 
     fits : view_of_parts (whole t (returned_link k) left) ≡ bare_of (whole t (returned_link k) left)
     fits =
-        let n : left.count + 1 ≡ l.count = remove_count l look.place w placed.1 known.0 in
+        let n : left.count + 1 ≡ l.count = remove_count l it.place w placed.1 known.0 in
         let counts = State.ended returned 1 k.counts in
         let even = even_counts counts left.count (omega (arith, known.0)) (omega (arith, known.1)) in
         rw counted (view_fit (whole t (link_with_counts counts k) left) even v.1)
@@ -182,23 +203,26 @@ module _ (t : Table) (k : Link) (l : Pending) (given : Given) (ticket : ℕ) (pa
     settled : view_of_parts (whole t (returned_link k) left) ≡ Acts.settles where_is returned (view_of_parts s)
     settled =
         let bare : bare_of (whole t (returned_link k) left) ≡ Acts.settles where_is returned (bare_of s) =
-        rw (counted, remove_view l look.place w where_is placed.0 placed.1 known.0) in
+        rw (counted, remove_view l it.place w where_is placed.0 placed.1 known.0) in
         fits ∙ bare ∙ ap (Acts.settles where_is returned) (sym (live_view s v))
 
     returned_tidy : TidyParts s → TidyParts (whole t (returned_link k) left)
     returned_tidy h =
-        record { list = remove_clean l look.place h.list; head = h.head; phase = sym (ap (λ (z : Sess). z.link.phase) fits) }
+        record { list = remove_clean l it.place h.list; head = h.head; phase = sym (ap (λ (z : Sess). z.link.phase) fits) }
 
-  returned_done : length given.results.list ≡ Limits.MAX-PACKETS → k.counts.accepted ≤ Limits.LAST-TICKET → first tests ≡ none
-      → CompletionDone (return_plan k l.count look given) t k l given.results.list c
-  returned_done a b f =
-      let good = completion_clear (judged_by (phase_of k l.count) look given (length c.payload) (length c.header)) f in
+  returned_done : ((r : Results) → given.results ≡ Some r → length r.list ≡ Limits.MAX-PACKETS) → k.counts.accepted ≤ Limits.LAST-TICKET
+      → first tests ≡ none → (it : Look) → look ≡ Some it → CompletionDone (return_plan k l.count it given) t k l (told given.results) c
+  unfolding decide
+  returned_done a b f it h =
+      let good = completion_clear seen (first_numbered refusal_number tests ∙ rw f) in
       let v = live s good.0 in
-      let u = look_transfer (list_of l) where_is in
-      let ks = look_packets (list_of l) where_is good.2 in
-      let n = iso_count look.transfer.packets in
-      let rs = all_sent given.plain given.results n look.iso given.actual a (iso-most look.transfer.packets) good.3 in
-      let e = settled b v good.2 in
+      let u = look_transfer (list_of l) where_is it h in
+      let ks = look_packets (list_of l) where_is it h in
+      let n = iso_count it.transfer.packets in
+      let fit : kind_fits (kind_of given) n it.iso given.actual ≡ true =
+      named_it given it good.2.0 (sym (ap (named_look given) h) ∙ good.2.1) ∙ good.2.2 in
+      let rs = all_sent given.results n it.iso given.actual a (iso-most it.transfer.packets) fit in
+      let e = settled b v it h in
       record {
         fits = λ _. good.1;
         done =
@@ -209,20 +233,29 @@ module _ (t : Table) (k : Link) (l : Pending) (given : Given) (ticket : ℕ) (pa
               header = over (submit_reply (ret_for (u i) sent c.actual (errors (results_in c.kind))) (ks i) (rs i)) c.header;
               next = e i;
             })
-            ∙ sym (complete-returns (view_of_parts s) c (ap first (sym judged) ∙ f));
-        same = λ n e. let z : ◌≡◌ {A = ℕ} 0 1 = cc in absurd (omega arith);
-        tidy = returned_tidy b v good.2;
+            ∙ sym (complete-returns (view_of_parts s) c (numbers ∙ rw f));
+        same = λ r e. let z : ◌≡◌ {A = ℕ} 0 1 = cc in absurd (omega arith);
+        tidy = returned_tidy b v it h;
       }
 
 pub completion_composed : CompletionComposed
 unfolding completion_plan decide
 completion_composed t k l given ticket payload header w a b = at (first (tests t k l given ticket payload header w)) refl
   where
-    at : (o : Option ℕ) → first (tests t k l given ticket payload header w) ≡ o → let seen = look t k l given ticket payload header w in
-        CompletionDone (decide o (refusal_plan k l.count seen given) (return_plan k l.count seen given)) t k l given.results.list
-        (given_for given ticket payload header)
-    at none f = returned_done t k l given ticket payload header w a b f
-    at (some n) f = refused-done t k l given ticket payload header w n f
+    which : first (tests t k l given ticket payload header w) ≡ none → (o : Maybe Look) → look t k l given ticket payload header w ≡ o
+        → CompletionDone (found_plan k l.count o given) t k l (told given.results) (given_for given ticket payload header)
+    which f None h =
+        let good = completion_clear (seen t k l given ticket payload header w)
+        (first_numbered refusal_number (tests t k l given ticket payload header w) ∙ rw f) in
+        let q : ◌≡◌ {A = Maybe Named} None (Some good.2.0) = sym (ap (named_look given) h) ∙ good.2.1 in
+        absurd (let z : ◌≡◌ {A = ℕ} 0 1 = cc q in omega arith)
+    which f (Some it) h = returned_done t k l given ticket payload header w a b f it h
+
+    at : (o : Option Refusal) → first (tests t k l given ticket payload header w) ≡ o
+        → CompletionDone (decide o (refusal_plan k l.count) (found_plan k l.count (look t k l given ticket payload header w) given)) t k l
+        (told given.results) (given_for given ticket payload header)
+    at none f = which f (look t k l given ticket payload header w) refl
+    at (some r) f = refused-done t k l given ticket payload header w r f
 
 -- ## A close
 

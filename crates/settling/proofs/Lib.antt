@@ -1,2 +1,3 @@
 -- Why the plans are what the definitions say.
 pub mod Acts
+mod Fitting

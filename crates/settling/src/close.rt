@@ -2,37 +2,34 @@
 ghost use Rattle.std.specs.Prelude.{◌≡◌};
 ghost use Rattle.settling.specs.Settling.{close_plan};
 
-use events::answer::Closing;
-use limits::{CLOSED, SESSION_CLOSED};
-use links::guard::phase_of;
-use links::link::{Link, ended_link};
+use limits::CLOSED;
+use links::link::{Link, Standing};
 use pending::change::Change;
+use verdicts::verdict::Refusal;
 
 // What a close will do: the next link, the change of the list, the answer.
 #[derive(Clone, Copy)]
 pub struct ClosePlan {
     pub link: Link,
     pub change: Change,
-    pub answer: Closing,
+    pub answer: Result<(), Refusal>,
 }
 
-// A close, with so many URBs pending: all of them are dropped.
-pub fn plan_close(link: Link, pending: usize) -> ClosePlan
-    ensures { result ≡ close_plan link pending }
+// A close: all URBs are dropped.
+#[tactic(auto, unfolding(crate::specs::Settling::close_plan))]
+pub fn plan_close(now: Standing) -> ClosePlan
+    ensures { result ≡ close_plan now.link now.pending }
 {
-    if phase_of(link, pending) == CLOSED {
-        let change = Change::keep(pending);
+    if now.phase() == CLOSED {
         return ClosePlan {
-            link: link,
-            change: change,
-            answer: Closing::Refused(SESSION_CLOSED),
+            link: now.link,
+            change: Change::keep(now.pending),
+            answer: Err(Refusal::SessionClosed),
         };
     }
-    let end = ended_link(link, pending);
-    let change = Change::clear(pending);
     ClosePlan {
-        link: end,
-        change: change,
-        answer: Closing::End,
+        link: now.ended(),
+        change: Change::clear(now.pending),
+        answer: Ok(()),
     }
 }

@@ -1,89 +1,104 @@
 // The plan of a completion.
-ghost use Rattle.std.specs.Prelude.{◌≡◌, ◌≤◌};
-ghost use Rattle.limits.specs.Limits.{MAX-PACKETS};
+ghost use Rattle.std.specs.Prelude.{◌≡◌, length};
+ghost use Rattle.messages.specs.Messages.{iso_count};
 ghost use Rattle.results.specs.Results.{errors};
 ghost use Rattle.model.specs.Acts.{results_in, kind_fits};
-ghost use Rattle.settling.specs.Settling.{kind_of, judged_by, return_for, returned_link, refusal_plan, return_plan, completion_plan};
+ghost use Rattle.settling.specs.Settling.{kind_of, named_look, judged_by, return_for, returned_link, refusal_plan, return_plan, completion_plan};
 
-use events::answer::Completion;
+use events::answer::Returned;
 use limits::{CLOSED, MAX_PACKETS};
-use links::guard::phase_of;
-use links::link::{Link, count_plus};
+use links::link::{Link, Standing, count_plus};
 use messages::message::{Transfer, iso_count};
 use messages::reply::RetSubmit;
-use packets::packet::Packet;
+use packets::packet::{Packet, no_packets};
 use pending::change::Change;
 use pending::counts::Counts;
 use pending::look::Look;
 use results::{Results, error_count, results_fit};
 use transmit::wire_length;
-use verdicts::verdict::{Admission, Completing, completion_refusal, status_sent};
+use verdicts::verdict::{Completing, Named, Refusal, completion_refusal, status_sent};
 
-// What the device side says of a ticket: a status and an actual length; and whether that is all, as of a URB that isn't isochronous, or
-// there is a result for each packet, too.
+// What the device side says of a ticket: a status and an actual length; and of an isochronous URB a result for each packet, too.
 #[derive(Clone, Copy)]
 pub struct Given {
     pub status: u32,
     pub actual: u32,
-    pub plain: bool,
-    pub results: Results,
+    pub results: Option<Results>,
 }
 
-// What a completion will do: the next link and the change of the list; the answer; and if it is good, the header and the packets of its
-// descriptors.
+// What a completion will do: the next link and the change of the list; the answer; and if it is good, the header of the reply and the
+// packets of its descriptors.
 #[derive(Clone, Copy)]
 pub struct CompletionPlan {
     pub link: Link,
     pub change: Change,
-    pub answer: Completion,
-    pub good: bool,
-    pub ret: RetSubmit,
+    pub answer: Result<Returned, Refusal>,
+    pub reply: Option<RetSubmit>,
     pub iso: [Packet; MAX_PACKETS],
 }
 
-// The act is the one for a URB with so many packets, and the results fit these.
-fn kind_fits(given: Given, count: usize, iso: [Packet; MAX_PACKETS]) -> bool
-    requires { count ≤ MAX-PACKETS }
-    ensures { result ≡ kind_fits (kind_of given) count iso given.actual }
+// The act is the one for a URB with these packets, and the results fit them.
+fn kind_fits(given: Given, iso: &[Packet]) -> bool
+    ensures { result ≡ kind_fits (kind_of given) (length iso.now) iso.now given.actual }
 {
-    if given.plain {
-        return count == 0;
+    match given.results {
+        None => iso.is_empty(),
+        Some(results) => !iso.is_empty() && results_fit(iso, results, given.actual),
     }
-    if count == 0 {
-        return false;
-    }
-    let results = given.results;
-    results_fit(iso, count, results, given.actual)
 }
 
 // How many packets have a status that isn't 0.
 fn errors_given(given: Given) -> u32
     ensures { result ≡ errors (results_in (kind_of given)) }
 {
-    if given.plain {
-        return 0;
+    match given.results {
+        None => 0,
+        Some(results) => error_count(results),
     }
-    let results = given.results;
-    error_count(results)
+}
+
+// Whether the completion fits a URB with so many packets, which are the first of these.
+fn packets_fit(given: Given, number: u32, iso: [Packet; MAX_PACKETS]) -> bool
+    ensures { result ≡ kind_fits (kind_of given) (iso_count number) iso given.actual }
+{
+    kind_fits(given, &iso[..iso_count(number)])
+}
+
+// What is asked of the URB that was found, if one was.
+fn named(look: Option<Look>, given: Given) -> Option<Named>
+    ensures { result ≡ named_look given look }
+{
+    match look {
+        None => None,
+        Some(look) => {
+            let u = look.transfer;
+            let iso = look.iso;
+            Some(Named {
+                length: u.length,
+                direction: u.direction,
+                fits: packets_fit(given, u.packets, iso),
+            })
+        }
+    }
 }
 
 // What a completion is judged by; payload and header are lengths.
-fn judged_by(phase: u8, look: Look, given: Given, payload: usize, header: usize) -> Completing
+fn judged_by(
+    phase: u8,
+    look: Option<Look>,
+    given: Given,
+    payload: usize,
+    header: usize,
+) -> Completing
     ensures { result ≡ judged_by phase look given payload header }
 {
-    let u = look.transfer;
-    let count = iso_count(u.packets);
-    let iso = look.iso;
     Completing {
         closed: phase == CLOSED,
         header: header,
-        found: look.found,
         status: given.status,
         actual: given.actual,
         payload: payload,
-        length: u.length,
-        direction: u.direction,
-        fits: kind_fits(given, count, iso),
+        urb: named(look, given),
     }
 }
 
@@ -108,72 +123,62 @@ fn returned_link(old: Link) -> Link
 {
     let c = old.counts;
     let returned = count_plus(c.returned, 1);
-    let counts = Counts {
-        returned: returned,
-        ..c
-    };
-    Link {
-        counts: counts,
-        ..old
-    }
+    let counts = Counts { returned, ..c };
+    Link { counts, ..old }
 }
 
 // The completion is refused, and nothing changes.
-fn plan_refusal(link: Link, pending: usize, look: Look, given: Given, number: u32) -> CompletionPlan
-    ensures { result ≡ refusal_plan link pending look given number }
+fn plan_refusal(now: Standing, refusal: Refusal) -> CompletionPlan
+    ensures { result ≡ refusal_plan now.link now.pending refusal }
 {
-    let change = Change::keep(pending);
-    let u = look.transfer;
-    let iso = look.iso;
-    let ret = reply_to(u, given);
+    let link = now.link;
+    let iso = no_packets();
     CompletionPlan {
         link: link,
-        change: change,
-        answer: Completion::Refused(number),
-        good: false,
-        ret: ret,
+        change: Change::keep(now.pending),
+        answer: Err(refusal),
+        reply: None,
         iso: iso,
     }
 }
 
 // The URB is returned.
-fn plan_return(link: Link, pending: usize, look: Look, given: Given) -> CompletionPlan
-    ensures { result ≡ return_plan link pending look given }
+fn plan_return(now: Standing, look: Look, given: Given) -> CompletionPlan
+    ensures { result ≡ return_plan now.link now.pending look given }
 {
-    let next = returned_link(link);
-    let change = Change::remove(pending, look.place);
     let u = look.transfer;
     let iso = look.iso;
     let ret = reply_to(u, given);
-    let count = iso_count(u.packets);
-    let n = wire_length(u.direction, given.actual, count as u32);
+    let returned = Returned {
+        length: wire_length(u.direction, given.actual, iso_count(u.packets) as u32),
+        status: ret.status,
+    };
     CompletionPlan {
-        link: next,
-        change: change,
-        answer: Completion::Return(n, ret.status),
-        good: true,
-        ret: ret,
+        link: returned_link(now.link),
+        change: Change::remove(now.pending, look.place),
+        answer: Ok(returned),
+        reply: Some(ret),
         iso: iso,
     }
 }
 
-// The plan of a completion of what was looked up under its ticket, with so many URBs pending, device's data and a header buffer of
-// these lengths.
+// The plan of a completion of what was looked up under its ticket, with device's data and a header buffer of these lengths. (What wasn't
+// found is refused by its judgement; the last branch is never taken.)
 pub fn plan_completion(
-    link: Link,
-    pending: usize,
-    look: Look,
+    now: Standing,
+    look: Option<Look>,
     given: Given,
     payload: usize,
     header: usize,
 ) -> CompletionPlan
-    ensures { result ≡ completion_plan link pending look given payload header }
+    ensures { result ≡ completion_plan now.link now.pending look given payload header }
 {
-    let phase = phase_of(link, pending);
-    let c = judged_by(phase, look, given, payload, header);
-    let admission = completion_refusal(c);
-    match admission {
-        Admission::Refused(number) => plan_refusal(link, pending, look, given, number),
-        Admission::Admitted => plan_return(link, pending, look, given),
+    let c = judged_by(now.phase(), look, given, payload, header);
+    match completion_refusal(c) {
+        Err(refusal) => plan_refusal(now, refusal),
+        Ok(()) => match look {
+            Some(look) => plan_return(now, look, given),
+            None => plan_refusal(now, Refusal::NotPending),
+        },
     }
 }

@@ -12,7 +12,8 @@ use Rattle.ground.proofs.Lists.{read-inside}
 use Rattle.halving.specs.Halving.{halved}
 use Rattle.halving.proofs.Halving.{halving_inside}
 use Rattle.pending.specs.declared.urb.Urb.{Urb}
-use Rattle.pending.specs.declared.look.Key.TheVariants.{Nothing as NoKey, Seqnum, Ticket}
+use Rattle.pending.specs.declared.look.Key.TheVariants.{Seqnum, Ticket}
+use Rattle.std.specs.Prelude.{Some, None}
 use Rattle.pending.specs.Pending.{ticket_of, seqnum_of, no_urb, blank, tickets, Place, At, Nothing, place_by}
 use Rattle.pending.specs.Looks.{look_at, look_for}
 use Rattle.pending.proofs.Finding.{place-first}
@@ -57,6 +58,6 @@ ticket-seen from n t us = at (halved t (tickets (take n (drop from us)))).found 
     at false e = rw e
 
 pub key_seen : KeySeen
-key_seen NoKey other from n us = refl
-key_seen (Seqnum q) other from n us = seqnum_seen from n q us
-key_seen (Ticket t) other from n us = absurd (other t refl)
+key_seen None other from n us = refl
+key_seen (Some (Seqnum q)) other from n us = seqnum_seen from n q us
+key_seen (Some (Ticket t)) other from n us = absurd (other t refl)

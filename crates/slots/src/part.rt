@@ -1,32 +1,12 @@
-// The bounds of a part of a slice, for the loops over it.
-ghost use Rattle.std.specs.Prelude.{◌≡◌, cond, ltb, ◌-◌, min};
+// A part of a slice: the first n from place `from` on, as many as there are. (`transmit::window` says the same of bytes: a
+// line each, in crates of which neither stands on the other.)
+ghost use Rattle.std.specs.Prelude.{◌≡◌, take, drop};
 
-// The lower of two numbers.
-pub fn lower(a: usize, b: usize) -> usize
-    ensures { result ≡ min a b }
-{
-    if a < b {
-        return a;
-    }
-    b
-}
+use pending::list::first;
+use pending::urb::Urb;
 
-// How many of n places from `from` on there are in len places.
-pub fn part_len(n: usize, from: usize, len: usize) -> usize
-    ensures { result ≡ min n (len - from) }
+pub fn part(urbs: &[Urb], from: usize, n: usize) -> &[Urb]
+    ensures { result.now ≡ take n (drop from urbs.now) }
 {
-    if len < from {
-        return 0;
-    }
-    lower(n, len - from)
-}
-
-// A place that is one of len, or 0.
-pub fn last_of(last: usize, len: usize) -> usize
-    ensures { result ≡ cond (ltb last len) last 0 }
-{
-    if last < len {
-        return last;
-    }
-    0
+    first(&urbs[from.min(urbs.len())..], n)
 }

@@ -1,13 +1,14 @@
 // The URBs of a lent slice, read.
-ghost use Rattle.std.specs.Prelude.{◌≡◌, cond, ◌+◌, ◌<◌, min, leb, length, take, drop, get_or, set};
+ghost use Rattle.std.specs.Prelude.{◌≡◌, min, length, take, drop, get_or};
 ghost use Rattle.limits.specs.Limits.{MAX-PENDING};
 ghost use Rattle.ground.specs.Writing.{over};
-ghost use Rattle.ages.specs.Ages.{age_at, stale_in};
+ghost use Rattle.ages.specs.Ages.{stale_in};
 ghost use Rattle.pending.specs.Pending.{blank, tickets};
 
-use crate::part::{lower, part_len};
-use ages::is_old;
+use crate::part::part;
+use ages::put_stale;
 use limits::MAX_PENDING;
+use pending::list::put_tickets;
 use pending::urb::Urb;
 
 // Past the end a blank one is read.
@@ -15,44 +16,17 @@ pub fn get_at(urbs: &[Urb], place: usize) -> Urb
     ensures { result ≡ get_or urbs.now place blank }
 {
     if place < urbs.len() {
-        return urbs[place];
+        urbs[place]
+    } else {
+        Urb::blank()
     }
-    Urb::blank()
 }
 
 // The tickets of the first n from place from on go to the front of `out`, as many as it has room for; what stands behind them stays.
 pub fn tickets_in(urbs: &[Urb], from: usize, n: usize, out: &mut [u64; MAX_PENDING])
     ensures { out.new ≡ over (tickets (take (min n MAX-PENDING) (drop from urbs.now))) out.old }
 {
-    let most = lower(n, MAX_PENDING);
-    let count = part_len(most, from, urbs.len());
-    let mut i = 0;
-    while i < count {
-        let at = from + i;
-        let t = urbs[at].ticket;
-        out[i] = t;
-        i = i + 1;
-    }
-}
-
-// One URB of an inquiry, which arrived then: where it is old its ticket goes to place k. It answers the next place.
-fn note(
-    out: &mut [u64; MAX_PENDING],
-    k: usize,
-    ticket: u64,
-    arrival: u32,
-    time: u32,
-    limit: u32,
-) -> usize
-    requires { k < MAX-PENDING }
-    ensures { let old = leb limit (age_at time arrival) in
-        (result ≡ cond old (k + 1) k) × (out.new ≡ cond old (set out.old k ticket) out.old) }
-{
-    if is_old(arrival, time, limit) {
-        out[k] = ticket;
-        return k + 1;
-    }
-    k
+    put_tickets(part(urbs, from, n.min(MAX_PENDING)), out);
 }
 
 // Of the first n from place from on, and no more than `out` has room for, the tickets of the stale ones go to its front, in order; what stands
@@ -68,16 +42,5 @@ pub fn stale_in(
     ensures { let ts = tickets (stale_in time limit (take (min n MAX-PENDING) (drop from urbs.now))) in
         (out.new ≡ over ts out.old) × (result ≡ length ts) }
 {
-    let most = lower(n, MAX_PENDING);
-    let count = part_len(most, from, urbs.len());
-    let mut k = 0;
-    let mut i = 0;
-    while i < count {
-        let at = from + i;
-        let ticket = urbs[at].ticket;
-        let arrival = urbs[at].arrival;
-        k = note(out, k, ticket, arrival, time, limit);
-        i = i + 1;
-    }
-    k
+    put_stale(part(urbs, from, n.min(MAX_PENDING)), time, limit, out)
 }

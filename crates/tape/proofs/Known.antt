@@ -1,17 +1,17 @@
 -- Records byte by byte: what the constants of Layout are, in numbers.
+use Rattle.std.specs.Prelude.{Some, None}
 use Rattle.std.proofs.Common.{◌≡◌, ℕ, List, [], ◌∷◌, refl}
 use Rattle.results.specs.Results.{packet_result}
 use Rattle.tape.specs.Tape.{head_of, stream_head, completion_head, iso_head, read_of, read_behind, wanted_of, iso_results, iso_total}
 use Rattle.tape.specs.declared.reader.Record.TheVariants.{Completion, Iso, Close}
-use Rattle.tape.specs.declared.reader.Read.{Read}
 
 -- `X>`, as the 65,536th record and as one more
-pub close-read : (read_behind 65535 (0x58 ∷ 0x3e ∷ []) ≡ Read.Record Close) × (read_behind 65536 (0x58 ∷ 0x3e ∷ []) ≡ Read.Bad)
+pub close-read : (read_behind 65535 (0x58 ∷ 0x3e ∷ []) ≡ Some Close) × (read_behind 65536 (0x58 ∷ 0x3e ∷ []) ≡ None)
 unfolding head_of
 close-read = (refl, refl)
 
 -- `D>`: ticket 1, status 0, 64 bytes, as in the sample tape
-pub completion_read : read_of (0x44 ∷ 0x3e ∷ 0 ∷ 0 ∷ 0 ∷ 0 ∷ 0 ∷ 0 ∷ 0 ∷ 1 ∷ 0 ∷ 0 ∷ 0 ∷ 0 ∷ 0 ∷ 0 ∷ 0 ∷ 64 ∷ []) ≡ Read.Record (Completion 1 0 64)
+pub completion_read : read_of (0x44 ∷ 0x3e ∷ 0 ∷ 0 ∷ 0 ∷ 0 ∷ 0 ∷ 0 ∷ 0 ∷ 1 ∷ 0 ∷ 0 ∷ 0 ∷ 0 ∷ 0 ∷ 0 ∷ 0 ∷ 64 ∷ []) ≡ Some (Completion 1 0 64)
 unfolding head_of completion_head
 completion_read = refl
 
@@ -33,14 +33,14 @@ iso_wanted = (refl, refl, refl)
 abbrev two : List ℕ
 two = counting 2 (0 ∷ 0 ∷ 0 ∷ 64 ∷ 0 ∷ 0 ∷ 0 ∷ 0 ∷ 255 ∷ 255 ∷ 255 ∷ 255 ∷ 255 ∷ 255 ∷ 255 ∷ 255 ∷ [])
 
-pub iso-read : (read_of (counting 0 []) ≡ Read.Record (Iso 1 0 0)) × (read_of two ≡ Read.Record (Iso 1 0 2))
+pub iso-read : (read_of (counting 0 []) ≡ Some (Iso 1 0 0)) × (read_of two ≡ Some (Iso 1 0 2))
     × (iso_results 2 two ≡ packet_result 64 0 ∷ packet_result 0xffffffff 0xffffffff ∷ []) × (iso_total (iso_results 2 two) ≡ 63)
 unfolding head_of iso_head
 iso-read = (refl, refl, refl, refl)
 
 -- a lone byte, another mark, a short count, a short body, a short `D>`, a short `I>` of one packet
-pub bad_read : (read_of (0x58 ∷ []) ≡ Read.Bad) × (read_of (0x58 ∷ 0x3f ∷ []) ≡ Read.Bad) × (read_of (0x43 ∷ 0x3e ∷ 0 ∷ []) ≡ Read.Bad)
-    × (read_of (0x43 ∷ 0x3e ∷ 0 ∷ 1 ∷ []) ≡ Read.Bad) × (read_of (0x44 ∷ 0x3e ∷ 0 ∷ []) ≡ Read.Bad)
-    × (read_of (counting 1 (0 ∷ 0 ∷ 0 ∷ 64 ∷ 0 ∷ 0 ∷ 0 ∷ [])) ≡ Read.Bad)
+pub bad_read : (read_of (0x58 ∷ []) ≡ None) × (read_of (0x58 ∷ 0x3f ∷ []) ≡ None) × (read_of (0x43 ∷ 0x3e ∷ 0 ∷ []) ≡ None)
+    × (read_of (0x43 ∷ 0x3e ∷ 0 ∷ 1 ∷ []) ≡ None) × (read_of (0x44 ∷ 0x3e ∷ 0 ∷ []) ≡ None)
+    × (read_of (counting 1 (0 ∷ 0 ∷ 0 ∷ 64 ∷ 0 ∷ 0 ∷ 0 ∷ [])) ≡ None)
 unfolding head_of stream_head completion_head iso_head
 bad_read = (refl, refl, refl, refl, refl, refl)

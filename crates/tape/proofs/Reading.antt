@@ -1,5 +1,6 @@
 -- A record is read exactly where its bytes stand at the front: what was written reads back, whatever follows it, and nothing else
 -- is read.
+use Rattle.std.specs.Prelude.{Some, None, Result, Ok, Err}
 use Rattle.std.proofs.Common.{◌≡◌, ℕ, ◌<◌, ◌≤◌, cond, eqb, ltb, leb, ◌⊎◌, ◌↔◌, List, [], ◌∷◌, ◌++◌, length, get_or, take, drop, sym, refl, ap, ◌∙◌, inl, inr, ⊎_elim, append_assoc, arith, length-append, length-drop, take-append-drop, length-take-le, drop-drop, take_at, take-add, drop_at, ltb-false, ltb-true, le-ltb, lt-ltb, ne_eqb, eqb-true, leb-false}
 use borrow.Author.Tests.{lt-leb, eqb-false}
 use Rattle.ground.proofs.Cases.{by_cond}
@@ -13,8 +14,7 @@ use Rattle.tape.specs.Tape.{u64, fields_of, count_of, most_of, length_of, record
 use Rattle.tape.specs.Tape.{read_in, read_of, read_behind, stream_of}
 use Rattle.tape.specs.declared.reader.Record.{Record}
 use Rattle.tape.specs.declared.reader.Record.TheVariants.{Stream, Completion, Iso, Close}
-use Rattle.tape.specs.declared.reader.Read.{Read}
-use Rattle.tape.specs.declared.reader.Head.{Head}
+use Rattle.tape.specs.declared.reader.Unread.{Unread}
 
 -- ## Fields at the front of bytes
 
@@ -42,10 +42,10 @@ head_len mark =
 
 -- What a head tells of the bytes that it was read from: the fields of a record; how many bytes are needed to tell, and why; or
 -- why none is there.
-abbrev pub Told : List ℕ → Head → Type 0
-Told bytes (Head.Record r) = (unpack (widths (fields_of r)) bytes ≡ fields_of r) × (count_of r ≤ most_of r) × (size (widths (fields_of r)) ≤ length bytes)
-Told bytes (Head.Short n) = (length bytes < n) × ((n ≡ Layout.MARK-LEN) ⊎ ((Layout.MARK-LEN ≤ length bytes) × (n ≡ head_len (mark_in bytes))))
-Told bytes Head.Bad =
+abbrev pub Told : List ℕ → Result Record Unread → Type 0
+Told bytes (Ok r) = (unpack (widths (fields_of r)) bytes ≡ fields_of r) × (count_of r ≤ most_of r) × (size (widths (fields_of r)) ≤ length bytes)
+Told bytes (Err (Unread.Short n)) = (length bytes < n) × ((n ≡ Layout.MARK-LEN) ⊎ ((Layout.MARK-LEN ≤ length bytes) × (n ≡ head_len (mark_in bytes))))
+Told bytes (Err Unread.Bad) =
     ((Layout.STREAM-AT ≤ length bytes) × (mark_in bytes ≡ Layout.STREAM-MARK) × (Layout.MAX-COUNT < field 2 Layout.COUNT-AT bytes))
     ⊎ ((Layout.RESULTS-AT ≤ length bytes) × (mark_in bytes ≡ Layout.ISO-MARK) × (MAX-PACKETS < field 1 Layout.RESULT-COUNT-AT bytes))
     ⊎ ((Layout.MARK-LEN ≤ length bytes)
@@ -110,7 +110,7 @@ abbrev pub value : ℕ → List Field → ℕ
 value i fs = (get_or fs i (u16 0)).value
 
 -- The other way round: the fields and the room for them make the head.
-pub found : (bytes : List ℕ) (r : Record) → Told bytes (Head.Record r) → head_of bytes ≡ Head.Record r
+pub found : (bytes : List ℕ) (r : Record) → Told bytes (Ok r) → head_of bytes ≡ Ok r
 unfolding head_of stream_head completion_head iso_head
 found bytes (Stream count) t =
     let m : mark_in bytes ≡ Layout.STREAM-MARK = ap (value 0) t.0 in
@@ -146,7 +146,7 @@ pub one_of_3 : {A B C D : Type 0} → (A → D) → (B → D) → (C → D) → 
 one_of_3 f g h = ⊎_elim f (⊎_elim g h)
 
 -- The same where no record is there.
-pub unfound : (bytes : List ℕ) → Told bytes Head.Bad → head_of bytes ≡ Head.Bad
+pub unfound : (bytes : List ℕ) → Told bytes (Err Unread.Bad) → head_of bytes ≡ Err Unread.Bad
 unfolding head_of stream_head iso_head
 unfound bytes =
     one_of_3
@@ -156,29 +156,28 @@ unfound bytes =
 
 -- ## Records
 
-clash : {A : Type 0} {r : Record} → Read.Bad ≡ Read.Record r → A
+clash : {A : Type 0} {r : Record} → None ≡ Some r → A
 clash e = absurd (let z : ◌≡◌ {A = ℕ} 0 1 = cc in omega arith)
 
 -- What is read is what the head tells, and it is there whole.
-pub read_head : (n : ℕ) (h : Head) (r : Record) → read_in n h ≡ Read.Record r → (h ≡ Head.Record r) × (length_of r ≤ n)
-read_head n (Head.Record q) r e =
-    by_cond (λ x. x ≡ Read.Record r → (Head.Record q ≡ Head.Record r) × (length_of r ≤ n)) (ltb n (length_of q)) (λ _ b. clash b)
-    (λ l b. let s : q ≡ r = cc in (ap Head.Record s, rw s at (ltb-false n (length_of q) l)))
+pub read_head : (n : ℕ) (h : Result Record Unread) (r : Record) → read_in n h ≡ Some r → (h ≡ Ok r) × (length_of r ≤ n)
+read_head n (Ok q) r e =
+    by_cond (λ x. x ≡ Some r → (◌≡◌ {A = Result Record Unread} (Ok q) (Ok r)) × (length_of r ≤ n)) (ltb n (length_of q)) (λ _ b. clash b)
+    (λ l b. let s : q ≡ r = cc in (rw s, rw s at (ltb-false n (length_of q) l)))
     e
-read_head n (Head.Short k) r e = clash e
-read_head n Head.Bad r e = clash e
+read_head n (Err why) r e = clash e
 
-pub read_whole : (bytes : List ℕ) (r : Record) → read_of bytes ≡ Read.Record r → length_of r ≤ length bytes
+pub read_whole : (bytes : List ℕ) (r : Record) → read_of bytes ≡ Some r → length_of r ≤ length bytes
 read_whole bytes r e = (read_head (length bytes) (head_of bytes) r e).1
 
 -- a record's bytes are as many as its length says
 pub record_length : (r : Record) (behind : List ℕ) → length behind ≡ count_of r → length (record_bytes r behind) ≡ length_of r
 record_length r behind e = simp (length-append, pack-length (fields_of r), e)
 
-starts : (bytes : List ℕ) → Bytes bytes → (r : Record) → read_of bytes ≡ Read.Record r → Starts bytes r
+starts : (bytes : List ℕ) → Bytes bytes → (r : Record) → read_of bytes ≡ Some r → Starts bytes r
 starts bytes b r e =
     let h = read_head (length bytes) (head_of bytes) r e in
-    let t : Told bytes (Head.Record r) = rw h.0 at (told bytes) in
+    let t : Told bytes (Ok r) = rw h.0 at (told bytes) in
     let k = size (widths (fields_of r)) in
     let f = front (widths (fields_of r)) bytes b t.2 in
     let p : pack (fields_of r) ≡ take k bytes = rw t.0 at f.0 in
@@ -194,7 +193,7 @@ starts bytes b r e =
 pub fields-first : (bytes : List ℕ) (r : Record) (s : Starts bytes r) → bytes ≡ pack (fields_of r) ++ (s.behind ++ s.rest)
 fields-first bytes r s = s.whole ∙ append_assoc (pack (fields_of r)) s.behind s.rest
 
-pub reads : (bytes : List ℕ) (r : Record) → Starts bytes r → read_of bytes ≡ Read.Record r
+pub reads : (bytes : List ℕ) (r : Record) → Starts bytes r → read_of bytes ≡ Some r
 reads bytes r s =
     let fs = fields_of r in
     let l : length_of r ≤ length bytes =
@@ -205,14 +204,14 @@ reads bytes r s =
 -- ## The theorem
 
 -- a record is read exactly where bytes start with it
-pub read_iff : (bytes : List ℕ) → Bytes bytes → (r : Record) → (read_of bytes ≡ Read.Record r) ↔ Starts bytes r
+pub read_iff : (bytes : List ℕ) → Bytes bytes → (r : Record) → (read_of bytes ≡ Some r) ↔ Starts bytes r
 read_iff bytes b r = (starts bytes b r, reads bytes r)
 
 -- and where fewer than the most came before
 pub next_iff : (before : ℕ) (bytes : List ℕ) → Bytes bytes → (r : Record)
-    → (read_behind before bytes ≡ Read.Record r) ↔ ((before < Layout.MAX-RECORDS) × Starts bytes r)
+    → (read_behind before bytes ≡ Some r) ↔ ((before < Layout.MAX-RECORDS) × Starts bytes r)
 next_iff before bytes b r = (
-  by_cond (λ x. x ≡ Read.Record r → (before < Layout.MAX-RECORDS) × Starts bytes r) (leb Layout.MAX-RECORDS before) (λ _ e. clash e)
+  by_cond (λ x. x ≡ Some r → (before < Layout.MAX-RECORDS) × Starts bytes r) (leb Layout.MAX-RECORDS before) (λ _ e. clash e)
       (λ l e. (leb-false _ _ l, starts bytes b r e)),
   λ s. rw (lt-leb _ _ s.0) (reads bytes r s.1),
 )

@@ -1,14 +1,13 @@
 -- The results of an `I>` record, read one after the other, and their total.
-use Rattle.std.proofs.Common.{◌≡◌, ℕ, zero, suc, ◌+◌, ◌-◌, ◌*◌, ◌%◌, ◌^◌, ◌<◌, ◌≤◌, List, [], ◌∷◌, ◌++◌, length, take, drop, set, replicate, sym, refl, ap, ◌∙◌, append_assoc, add-one, arith, take_all, drop-drop, take_at, drop_at, le-ltb}
+use Rattle.std.proofs.Common.{fold, ◌≡◌, ℕ, zero, suc, ◌+◌, ◌-◌, ◌*◌, ◌%◌, ◌^◌, ◌<◌, List, [], ◌∷◌, ◌++◌, length, take, drop, set, replicate, sym, refl, ap, ◌∙◌, append_assoc, add-one, arith, drop-drop, drop_at, le-ltb}
 use native.Mathlib.Nat.{mod-add-mod}
 use lib.Seq.{set_at, append_snoc}
 use Rattle.wire.specs.Fields.{pack, unpack, Fitting}
 use Rattle.wire.proofs.Heads.{pack-length, unpack-pack}
 use Rattle.limits.specs.Limits.{MAX-PACKETS}
-use Rattle.results.specs.Results.{no_result, result_in, results_of, sum}
+use Rattle.results.specs.Results.{no_result, results_of, sum}
 use Rattle.results.specs.declared.PacketResult.{PacketResult}
 use Rattle.results.specs.declared.Results.{Results}
-use Rattle.results.proofs.Laws.{results_inside, sum_more}
 use Rattle.tape.specs.Layout
 use Rattle.tape.specs.Tape.{fields_of, Starts, result_fields, result_bytes, result_at, read_results, iso_results, iso_total}
 use Rattle.tape.specs.declared.reader.Record.TheVariants.{Iso}
@@ -53,17 +52,14 @@ fill_more l at i h =
     ∙ ap (λ (rs : List PacketResult). rs ++ rest) (sym (read_snoc i k))
     ∙ ap (λ (n : ℕ). filled n k) (sym (add-one i)))
 
--- what the array's struct says are the results
-pub filled_results : (n : ℕ) (l : List ℕ) → n ≤ MAX-PACKETS → results_of (record { list = filled n l; count = n }) ≡ read_results n l
-filled_results n l h =
-    results_inside (record { list = filled n l; count = n }) h
-    ∙ take_at (read_results n l) (replicate (MAX-PACKETS - n) no_result) n (read_length n l)
-
 -- ## The total
 
-pub total_more : (l : List PacketResult) (i : ℕ) → i < length l
-    → (iso_total (take i l) + (result_in l i).actual) % 2 ^ 32 ≡ iso_total (take (i + 1) l)
-total_more l i h = mod-add-mod (sum (take i l)) (2 ^ 32) (result_in l i).actual ∙ ap (λ (n : ℕ). n % 2 ^ 32) (sum_more l i h)
+-- a sum that wraps at each step
+folded : (rs : List PacketResult) (n : ℕ) → fold (λ t r. (t + r.actual) % 2 ^ 32) (n % 2 ^ 32) rs ≡ (n + sum rs) % 2 ^ 32
+folded [] n = let e : n + 0 ≡ n = omega arith in rw e
+folded (r ∷ rs) n =
+    let e : n + r.actual + sum rs ≡ n + (r.actual + sum rs) = omega arith in
+    rw (mod-add-mod n (2 ^ 32) r.actual, ← e) (folded rs (n + r.actual))
 
 -- blank results add nothing
 sum-blank : (rs : List PacketResult) (n : ℕ) → sum (rs ++ replicate n no_result) ≡ sum rs
@@ -71,13 +67,11 @@ sum-blank [] zero = refl
 sum-blank [] (suc n) = rw (sum-blank [] n)
 sum-blank (r ∷ rs) n = ap (λ (k : ℕ). r.actual + k) (sum-blank rs n)
 
-pub total_counted : (r : Results) → iso_total (results_of r) ≡ iso_total (take r.count r.list)
-total_counted r = ap (λ (n : ℕ). n % 2 ^ 32) (sum-blank (take r.count r.list) (r.count - MAX-PACKETS))
-
-pub total_full : (r : Results) → length r.list ≡ MAX-PACKETS → MAX-PACKETS ≤ r.count
-    → iso_total (results_of r) ≡ iso_total (take MAX-PACKETS r.list)
-total_full r l h =
-    total_counted r ∙ ap iso_total (take_all r.count r.list (omega arith) ∙ sym (take_all MAX-PACKETS r.list (omega arith)))
+pub total_folded : (r : Results) → fold (λ t x. (t + x.actual) % 2 ^ 32) 0 (take r.count r.list) ≡ iso_total (results_of r)
+total_folded r =
+    let rs = take r.count r.list in
+    let e : 0 + sum rs ≡ sum rs = omega arith in
+    rw (sum-blank rs (r.count - MAX-PACKETS), ← e) (folded rs 0)
 
 -- ## What was written reads back
 

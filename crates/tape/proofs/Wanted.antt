@@ -1,4 +1,5 @@
 -- The laws of what is wanted: no byte behind the record, and as many as tell it.
+use Rattle.std.specs.Prelude.{Some, Result, Ok, Err}
 use Rattle.std.proofs.Common.{◌≡◌, ℕ, ◌≤◌, eqb, List, [], ◌∷◌, ◌++◌, length, drop, sym, refl, ap, ◌∙◌, inl, inr, ⊎_elim, arith, length-append, length-drop, le-ltb}
 use lib.Seq.{take-append-le, drop-append-le}
 use Rattle.ground.proofs.Cases.{by_cond}
@@ -8,8 +9,7 @@ use Rattle.tape.specs.Layout
 use Rattle.tape.specs.Tape.{fields_of, count_of, most_of, length_of, head_of, read_in, read_of, wanted_in, wanted_of, ReadsAlike}
 use Rattle.tape.specs.declared.reader.Record.{Record}
 use Rattle.tape.specs.declared.reader.Record.TheVariants.{Stream, Completion, Iso, Close}
-use Rattle.tape.specs.declared.reader.Read.{Read}
-use Rattle.tape.specs.declared.reader.Head.{Head}
+use Rattle.tape.specs.declared.reader.Unread.{Unread}
 use Rattle.tape.proofs.Reading.{mark_in, head_len, Told, told, found, one_of_3, unfound, value, read_head}
 
 -- ## More bytes behind
@@ -31,11 +31,11 @@ module _ (bytes more : List ℕ) where
   mark-more h = field_stays 2 Layout.MARK-AT bytes more h
 
   -- a head that tells a record, or that there is none, stays
-  pub record_stays : (r : Record) → Told bytes (Head.Record r) → head_of (bytes ++ more) ≡ Head.Record r
+  pub record_stays : (r : Record) → Told bytes (Ok r) → head_of (bytes ++ more) ≡ Ok r
   record_stays r t =
       found (bytes ++ more) r (unpack-more (widths (fields_of r)) bytes more t.2 ∙ t.0, t.1, omega (arith, longer))
 
-  pub bad_stays : Told bytes Head.Bad → head_of (bytes ++ more) ≡ Head.Bad
+  pub bad_stays : Told bytes (Err Unread.Bad) → head_of (bytes ++ more) ≡ Err Unread.Bad
   bad_stays t =
       unfound (bytes ++ more)
       (one_of_3
@@ -46,7 +46,7 @@ module _ (bytes more : List ℕ) where
 
 -- ## How long a record is
 
-marked : (bytes : List ℕ) (r : Record) → Told bytes (Head.Record r) → mark_in bytes ≡ value 0 (fields_of r)
+marked : (bytes : List ℕ) (r : Record) → Told bytes (Ok r) → mark_in bytes ≡ value 0 (fields_of r)
 marked bytes (Stream n) t = ap (value 0) t.0
 marked bytes (Completion k s a) t = ap (value 0) t.0
 marked bytes (Iso k s n) t = ap (value 0) t.0
@@ -78,37 +78,37 @@ head-room mark =
 -- ## What is wanted
 
 module _ (bytes more : List ℕ) where
-  past : (h : Head) → Told bytes h → (r : Record) → head_of (bytes ++ more) ≡ Head.Record r → wanted_in (length bytes) h ≤ length_of r
-  past (Head.Record q) t r e =
+  past : (h : Result Record Unread) → Told bytes h → (r : Record) → head_of (bytes ++ more) ≡ Ok r → wanted_in (length bytes) h ≤ length_of r
+  past (Ok q) t r e =
       let s = record_stays bytes more q t in
       let p : q ≡ r = cc in
       rw p (omega arith)
-  past (Head.Short n) t r e =
+  past (Err (Unread.Short n)) t r e =
       let m = sym (marked (bytes ++ more) r (rw e at (told (bytes ++ more)))) in
       let l = least r in
       ⊎_elim (λ a. rw a l.0) (λ a. rw (a.1, ← mark-more bytes more a.0, ← m) l.1) t.1
-  past Head.Bad t r e =
+  past (Err Unread.Bad) t r e =
       let b = bad_stays bytes more t in
       absurd (let z : ◌≡◌ {A = ℕ} 0 1 = cc in omega arith)
 
   -- no more bytes than the record has
-  pub never_past : (r : Record) → read_of (bytes ++ more) ≡ Read.Record r → wanted_of bytes ≤ length_of r
+  pub never_past : (r : Record) → read_of (bytes ++ more) ≡ Some r → wanted_of bytes ≤ length_of r
   never_past r e = past (head_of bytes) (told bytes) r (read_head (length (bytes ++ more)) (head_of (bytes ++ more)) r e).0
 
-  settled : (h : Head) → Told bytes h → wanted_in (length bytes) h ≤ length bytes → read_of (bytes ++ more) ≡ read_in (length bytes) h
-  settled (Head.Record q) t w =
+  settled : (h : Result Record Unread) → Told bytes h → wanted_in (length bytes) h ≤ length bytes → read_of (bytes ++ more) ≡ read_in (length bytes) h
+  settled (Ok q) t w =
       rw (record_stays bytes more q t, le-ltb (length (bytes ++ more)) (length_of q) (omega (arith, longer bytes more)), le-ltb (length bytes) (length_of q) w)
-  settled (Head.Short n) t w = absurd (omega arith)
-  settled Head.Bad t w = rw (bad_stays bytes more t)
+  settled (Err (Unread.Short n)) t w = absurd (omega arith)
+  settled (Err Unread.Bad) t w = rw (bad_stays bytes more t)
 
 -- where as many are there, what stands behind them changes nothing
 pub enough : (bytes : List ℕ) → wanted_of bytes ≤ length bytes → ReadsAlike bytes
 enough bytes w more = settled bytes more (head_of bytes) (told bytes) w
 
-room_for : (bytes : List ℕ) (h : Head) → Told bytes h → Layout.MAX-RECORD-LEN ≤ length bytes → wanted_in (length bytes) h ≤ length bytes
-room_for bytes (Head.Record r) t l = omega (arith, most r t.1)
-room_for bytes (Head.Short n) t l = ⊎_elim (λ a. omega arith) (λ a. omega (arith, head-room (mark_in bytes))) t.1
-room_for bytes Head.Bad t l = omega arith
+room_for : (bytes : List ℕ) (h : Result Record Unread) → Told bytes h → Layout.MAX-RECORD-LEN ≤ length bytes → wanted_in (length bytes) h ≤ length bytes
+room_for bytes (Ok r) t l = omega (arith, most r t.1)
+room_for bytes (Err (Unread.Short n)) t l = ⊎_elim (λ a. omega arith) (λ a. omega (arith, head-room (mark_in bytes))) t.1
+room_for bytes (Err Unread.Bad) t l = omega arith
 
 -- no more than a buffer for the longest record has room for
 pub wanted_room : (bytes : List ℕ) → Layout.MAX-RECORD-LEN ≤ length bytes → wanted_of bytes ≤ length bytes

@@ -1,5 +1,5 @@
 -- A tape's records, each read from the bytes at the front of what is left of the tape (PROTOCOL.md, 10.1).
-use Rattle.std.specs.Prelude.{◌≡◌, ℕ, zero, suc, ◌+◌, ◌*◌, ◌%◌, ◌^◌, ◌≤◌, cond, List, [], ◌∷◌, ◌++◌, length, take, drop, ◌==◌, nat_le, nat_lt}
+use Rattle.std.specs.Prelude.{◌≡◌, Option, Some, None, Result, Ok, Err, ℕ, zero, suc, ◌+◌, ◌*◌, ◌%◌, ◌^◌, ◌≤◌, cond, List, [], ◌∷◌, ◌++◌, length, take, drop, ◌==◌, nat_le, nat_lt}
 use Rattle.ground.specs.Lists.{joined}
 use Rattle.wire.specs.Fields.{Field, u8, u16, u32, pack, field, widths, size, Fitting}
 use Rattle.limits.specs.Limits.{MAX-PACKETS}
@@ -8,8 +8,7 @@ use Rattle.results.specs.declared.PacketResult.{PacketResult}
 use Rattle.tape.specs.Layout
 use Rattle.tape.specs.declared.reader.Record.{Record}
 use Rattle.tape.specs.declared.reader.Record.TheVariants.{Stream, Completion, Iso, Close}
-use Rattle.tape.specs.declared.reader.Read.{Read}
-use Rattle.tape.specs.declared.reader.Head.{Head}
+use Rattle.tape.specs.declared.reader.Unread.{Unread}
 
 -- ## A record
 
@@ -57,44 +56,43 @@ pub record Starts (bytes : List ℕ) (r : Record) : Type 0 where
 
 -- What the first bytes of a record tell: which it is, how many bytes are needed to tell more, or that it doesn't read. Behind
 -- `C>`, behind `D>`, behind `I>`, and at the front.
-unfoldable pub stream_head : List ℕ → Head
+unfoldable pub stream_head : List ℕ → Result Record Unread
 stream_head bytes =
     let count = field 2 Layout.COUNT-AT bytes in
-    cond (nat_lt (length bytes) Layout.STREAM-AT) (Head.Short Layout.STREAM-AT)
-    (cond (nat_lt Layout.MAX-COUNT count) Head.Bad (Head.Record (Stream count)))
+    cond (nat_lt (length bytes) Layout.STREAM-AT) (Err (Unread.Short Layout.STREAM-AT))
+    (cond (nat_lt Layout.MAX-COUNT count) (Err Unread.Bad) (Ok (Stream count)))
 
-unfoldable pub completion_head : List ℕ → Head
+unfoldable pub completion_head : List ℕ → Result Record Unread
 completion_head bytes =
-    cond (nat_lt (length bytes) Layout.COMPLETION-LEN) (Head.Short Layout.COMPLETION-LEN)
-    (Head.Record (Completion (field 8 Layout.TICKET-AT bytes) (field 4 Layout.STATUS-AT bytes) (field 4 Layout.ACTUAL-AT bytes)))
+    cond (nat_lt (length bytes) Layout.COMPLETION-LEN) (Err (Unread.Short Layout.COMPLETION-LEN))
+    (Ok (Completion (field 8 Layout.TICKET-AT bytes) (field 4 Layout.STATUS-AT bytes) (field 4 Layout.ACTUAL-AT bytes)))
 
-unfoldable pub iso_head : List ℕ → Head
+unfoldable pub iso_head : List ℕ → Result Record Unread
 iso_head bytes =
     let count = field 1 Layout.RESULT-COUNT-AT bytes in
-    cond (nat_lt (length bytes) Layout.RESULTS-AT) (Head.Short Layout.RESULTS-AT)
-    (cond (nat_lt MAX-PACKETS count) Head.Bad (Head.Record (Iso (field 8 Layout.TICKET-AT bytes) (field 4 Layout.STATUS-AT bytes) count)))
+    cond (nat_lt (length bytes) Layout.RESULTS-AT) (Err (Unread.Short Layout.RESULTS-AT))
+    (cond (nat_lt MAX-PACKETS count) (Err Unread.Bad) (Ok (Iso (field 8 Layout.TICKET-AT bytes) (field 4 Layout.STATUS-AT bytes) count)))
 
-unfoldable pub head_of : List ℕ → Head
+unfoldable pub head_of : List ℕ → Result Record Unread
 head_of bytes =
     let mark = field 2 Layout.MARK-AT bytes in
-    cond (nat_lt (length bytes) Layout.MARK-LEN) (Head.Short Layout.MARK-LEN)
+    cond (nat_lt (length bytes) Layout.MARK-LEN) (Err (Unread.Short Layout.MARK-LEN))
     (cond (mark == Layout.STREAM-MARK) (stream_head bytes)
     (cond (mark == Layout.COMPLETION-MARK) (completion_head bytes)
     (cond (mark == Layout.ISO-MARK) (iso_head bytes)
-    (cond (mark == Layout.CLOSE-MARK) (Head.Record Close) Head.Bad))))
+    (cond (mark == Layout.CLOSE-MARK) (Ok Close) (Err Unread.Bad)))))
 
 -- The record at the front. "A record that doesn't read": "another mark, a count too high, too few bytes".
-abbrev pub read_in : ℕ → Head → Read
-read_in present (Head.Record r) = cond (nat_lt present (length_of r)) Read.Bad (Read.Record r)
-read_in present (Head.Short n) = Read.Bad
-read_in present Head.Bad = Read.Bad
+abbrev pub read_in : ℕ → Result Record Unread → Option Record
+read_in present (Ok r) = cond (nat_lt present (length_of r)) None (Some r)
+read_in present (Err why) = None
 
-abbrev pub read_of : List ℕ → Read
+abbrev pub read_of : List ℕ → Option Record
 read_of bytes = read_in (length bytes) (head_of bytes)
 
 -- The record at the front behind as many others: "a 65,537th record" doesn't read.
-abbrev pub read_behind : ℕ → List ℕ → Read
-read_behind before bytes = cond (nat_le Layout.MAX-RECORDS before) Read.Bad (read_of bytes)
+abbrev pub read_behind : ℕ → List ℕ → Option Record
+read_behind before bytes = cond (nat_le Layout.MAX-RECORDS before) None (read_of bytes)
 
 -- The stream bytes of a `C>` record, where all are there.
 abbrev pub stream_of : ℕ → List ℕ → List ℕ
@@ -131,10 +129,10 @@ iso_total rs = sum rs % 2 ^ 32
 -- ## Reading piece by piece
 
 -- How many bytes a record takes, as far as its first bytes tell; those that are there where it doesn't read.
-abbrev pub wanted_in : ℕ → Head → ℕ
-wanted_in present (Head.Record r) = length_of r
-wanted_in present (Head.Short n) = n
-wanted_in present Head.Bad = present
+abbrev pub wanted_in : ℕ → Result Record Unread → ℕ
+wanted_in present (Ok r) = length_of r
+wanted_in present (Err (Unread.Short n)) = n
+wanted_in present (Err Unread.Bad) = present
 
 abbrev pub wanted_of : List ℕ → ℕ
 wanted_of bytes = wanted_in (length bytes) (head_of bytes)

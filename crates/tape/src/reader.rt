@@ -1,6 +1,6 @@
 // The reader of a tape's records.
-ghost use Rattle.std.specs.Prelude.{◌≡◌, ◌+◌, ◌<◌, ◌≤◌, length};
-ghost use Rattle.wire.specs.Fields.{field};
+ghost use Rattle.std.specs.Prelude.{◌≡◌, ◌<◌, ◌≤◌, MatchResult, length};
+ghost use Rattle.tape.specs.declared.reader.Unread.{Unread};
 ghost use Rattle.tape.specs.Tape.{length_of, stream_head, completion_head, iso_head, head_of, read_of, read_behind, wanted_of, stream_of};
 
 use crate::layout::{
@@ -9,7 +9,7 @@ use crate::layout::{
     STREAM_MARK, TICKET_AT,
 };
 use limits::MAX_PACKETS;
-use wire::number::{be2, be4, be8};
+use wire::number::BigEndian;
 
 // A record: how many stream bytes it has; a completion by the device (actual is actual_length); one of an isochronous URB, with as
 // many results; a close. `fields_of` in specs/ gives each case's mark and fields.
@@ -29,131 +29,78 @@ pub enum Record {
     Close,
 }
 
-// What stands at the front of a tape: a record, or one that doesn't read.
+// Why the first bytes of a tape tell no record: how many bytes are needed to tell more, or that it doesn't read.
 #[derive(Clone, Copy)]
-pub enum Read {
-    Record(Record),
-    Bad,
-}
-
-// What the first bytes of a record tell: which it is, how many bytes are needed to tell more, or that it doesn't read.
-#[derive(Clone, Copy)]
-enum Head {
-    Record(Record),
+enum Unread {
     Short(usize),
     Bad,
 }
 
-// The field at an offset, of 8, 16, 32 and 64 bits.
-fn field8(bytes: &[u8], at: usize) -> u8
-    requires { at < length bytes.now }
-    ensures { result ≡ field 1 at bytes.now }
+// That as many bytes are there; where they are not, so many are needed.
+fn reach(bytes: &[u8], len: usize) -> Result<(), Unread>
+    ensures { MatchResult result (λ _. len ≤ length bytes.now) (λ why. (length bytes.now < len) × (why ≡ Unread.Short len)) }
 {
-    bytes[at]
-}
-
-fn field16(bytes: &[u8], at: usize) -> u16
-    requires { at + 2 ≤ length bytes.now }
-    ensures { result ≡ field 2 at bytes.now }
-{
-    be2(bytes[at], bytes[at + 1])
-}
-
-pub(crate) fn field32(bytes: &[u8], at: usize) -> u32
-    requires { at + 4 ≤ length bytes.now }
-    ensures { result ≡ field 4 at bytes.now }
-{
-    be4(bytes[at], bytes[at + 1], bytes[at + 2], bytes[at + 3])
-}
-
-fn field64(bytes: &[u8], at: usize) -> u64
-    requires { at + 8 ≤ length bytes.now }
-    ensures { result ≡ field 8 at bytes.now }
-{
-    be8(
-        bytes[at],
-        bytes[at + 1],
-        bytes[at + 2],
-        bytes[at + 3],
-        bytes[at + 4],
-        bytes[at + 5],
-        bytes[at + 6],
-        bytes[at + 7],
-    )
+    if bytes.len() < len {
+        return Err(Unread::Short(len));
+    }
+    Ok(())
 }
 
 // Behind `C>`.
 #[tactic(auto, unfolding(crate::specs::Tape::stream_head))]
-fn stream_head(bytes: &[u8]) -> Head
+fn stream_head(bytes: &[u8]) -> Result<Record, Unread>
     ensures { result ≡ stream_head bytes.now }
 {
-    if bytes.len() < STREAM_AT {
-        return Head::Short(STREAM_AT);
-    }
-    let count = field16(bytes, COUNT_AT);
+    reach(bytes, STREAM_AT)?;
+    let count = u16::read(bytes, COUNT_AT);
     if MAX_COUNT < count {
-        return Head::Bad;
+        return Err(Unread::Bad);
     }
-    Head::Record(Record::Stream(count))
+    Ok(Record::Stream(count))
 }
 
 // Behind `D>`.
 #[tactic(auto, unfolding(crate::specs::Tape::completion_head))]
-fn completion_head(bytes: &[u8]) -> Head
+fn completion_head(bytes: &[u8]) -> Result<Record, Unread>
     ensures { result ≡ completion_head bytes.now }
 {
-    if bytes.len() < COMPLETION_LEN {
-        return Head::Short(COMPLETION_LEN);
-    }
-    let completion = Record::Completion {
-        ticket: field64(bytes, TICKET_AT),
-        status: field32(bytes, STATUS_AT),
-        actual: field32(bytes, ACTUAL_AT),
-    };
-    Head::Record(completion)
+    reach(bytes, COMPLETION_LEN)?;
+    Ok(Record::Completion {
+        ticket: u64::read(bytes, TICKET_AT),
+        status: u32::read(bytes, STATUS_AT),
+        actual: u32::read(bytes, ACTUAL_AT),
+    })
 }
 
 // Behind `I>`.
 #[tactic(auto, unfolding(crate::specs::Tape::iso_head))]
-fn iso_head(bytes: &[u8]) -> Head
+fn iso_head(bytes: &[u8]) -> Result<Record, Unread>
     ensures { result ≡ iso_head bytes.now }
 {
-    if bytes.len() < RESULTS_AT {
-        return Head::Short(RESULTS_AT);
-    }
-    let count = field8(bytes, RESULT_COUNT_AT);
+    reach(bytes, RESULTS_AT)?;
+    let count = u8::read(bytes, RESULT_COUNT_AT);
     if MAX_PACKETS < count as usize {
-        return Head::Bad;
+        return Err(Unread::Bad);
     }
-    let iso = Record::Iso {
-        ticket: field64(bytes, TICKET_AT),
-        status: field32(bytes, STATUS_AT),
-        count: count,
-    };
-    Head::Record(iso)
+    Ok(Record::Iso {
+        ticket: u64::read(bytes, TICKET_AT),
+        status: u32::read(bytes, STATUS_AT),
+        count,
+    })
 }
 
 #[tactic(auto, unfolding(crate::specs::Tape::head_of))]
-fn read_head(bytes: &[u8]) -> Head
+fn read_head(bytes: &[u8]) -> Result<Record, Unread>
     ensures { result ≡ head_of bytes.now }
 {
-    if bytes.len() < MARK_LEN {
-        return Head::Short(MARK_LEN);
+    reach(bytes, MARK_LEN)?;
+    match u16::read(bytes, MARK_AT) {
+        STREAM_MARK => stream_head(bytes),
+        COMPLETION_MARK => completion_head(bytes),
+        ISO_MARK => iso_head(bytes),
+        CLOSE_MARK => Ok(Record::Close),
+        _ => Err(Unread::Bad),
     }
-    let mark = field16(bytes, MARK_AT);
-    if mark == STREAM_MARK {
-        return stream_head(bytes);
-    }
-    if mark == COMPLETION_MARK {
-        return completion_head(bytes);
-    }
-    if mark == ISO_MARK {
-        return iso_head(bytes);
-    }
-    if mark == CLOSE_MARK {
-        return Head::Record(Record::Close);
-    }
-    Head::Bad
 }
 
 // How many bytes a record takes; the next one stands behind them.
@@ -162,43 +109,27 @@ pub fn record_len(r: Record) -> usize
 {
     match r {
         Record::Stream(count) => STREAM_AT + count as usize,
-        Record::Completion {
-            ticket: _,
-            status: _,
-            actual: _,
-        } => COMPLETION_LEN,
-        Record::Iso {
-            ticket: _,
-            status: _,
-            count,
-        } => RESULTS_AT + count as usize * RESULT_LEN,
+        Record::Completion { .. } => COMPLETION_LEN,
+        Record::Iso { count, .. } => RESULTS_AT + count as usize * RESULT_LEN,
         Record::Close => MARK_LEN,
     }
 }
 
-// The record at the front of a tape.
-pub fn read_record(bytes: &[u8]) -> Read
+// The record at the front of a tape; None where it doesn't read.
+pub fn read_record(bytes: &[u8]) -> Option<Record>
     ensures { result ≡ read_of bytes.now }
 {
-    let head = read_head(bytes);
-    match head {
-        Head::Record(r) => {
-            if bytes.len() < record_len(r) {
-                return Read::Bad;
-            }
-            Read::Record(r)
-        }
-        Head::Short(_) => Read::Bad,
-        Head::Bad => Read::Bad,
-    }
+    read_head(bytes)
+        .ok()
+        .filter(|r| record_len(*r) <= bytes.len())
 }
 
 // The record at the front of what is left of a tape, behind as many records as `before`: a tape has at most MAX_RECORDS.
-pub fn read_next(before: usize, bytes: &[u8]) -> Read
+pub fn read_next(before: usize, bytes: &[u8]) -> Option<Record>
     ensures { result ≡ read_behind before bytes.now }
 {
     if MAX_RECORDS <= before {
-        return Read::Bad;
+        return None;
     }
     read_record(bytes)
 }
@@ -208,11 +139,10 @@ pub fn read_next(before: usize, bytes: &[u8]) -> Read
 pub fn wanted(bytes: &[u8]) -> usize
     ensures { result ≡ wanted_of bytes.now }
 {
-    let head = read_head(bytes);
-    match head {
-        Head::Record(r) => record_len(r),
-        Head::Short(n) => n,
-        Head::Bad => bytes.len(),
+    match read_head(bytes) {
+        Ok(r) => record_len(r),
+        Err(Unread::Short(n)) => n,
+        Err(Unread::Bad) => bytes.len(),
     }
 }
 
@@ -220,9 +150,7 @@ pub fn wanted(bytes: &[u8]) -> usize
 pub fn stream_bytes(bytes: &[u8], count: u16) -> &[u8]
     ensures { result.now ≡ stream_of count bytes.now }
 {
-    let end = STREAM_AT + count as usize;
-    if bytes.len() < end {
-        return &bytes[..0];
-    }
-    &bytes[STREAM_AT..end]
+    bytes
+        .get(STREAM_AT..STREAM_AT + count as usize)
+        .unwrap_or(&[])
 }

@@ -1,27 +1,21 @@
 // What a tape is replayed on: the table of the session, and the device's data.
-ghost use Rattle.std.specs.Prelude.{◌≡◌};
-ghost use Rattle.tape.specs.Table.{tape_path, tape_busid, tape_table, device_data};
+ghost use Rattle.std.specs.Prelude.{◌≡◌, ◌≤◌, length};
+ghost use Rattle.ground.specs.Lists.{padded};
+ghost use Rattle.tape.specs.Table.{tape_table, device_data};
 
 use crate::layout::DATA_LEN;
 use exports::device::{Device, Interface, Table};
 use ground::writing::write;
-use limits::{MAX_DEVICES, MAX_INTERFACES, PATH_LEN};
-use wire::codes::BUSID_LEN;
+use limits::{MAX_DEVICES, MAX_INTERFACES};
 
-fn path() -> [u8; PATH_LEN]
-    ensures { result ≡ tape_path }
+// A text with zeros behind it.
+fn padded<const N: usize>(text: &[u8]) -> [u8; N]
+    requires { length text.now ≤ N }
+    ensures { result ≡ padded N text.now }
 {
-    let mut path = [0u8; PATH_LEN];
-    write(&mut path, b"/deck/1-1");
-    path
-}
-
-fn busid() -> [u8; BUSID_LEN]
-    ensures { result ≡ tape_busid }
-{
-    let mut busid = [0u8; BUSID_LEN];
-    write(&mut busid, b"1-1");
-    busid
+    let mut bytes = [0u8; N];
+    write(&mut bytes, text);
+    bytes
 }
 
 // The table of one device, which every place of the array holds: what stands past the count is free.
@@ -35,8 +29,8 @@ pub fn tape_table() -> Table
         bInterfaceProtocol: 0,
     };
     let device = Device {
-        path: path(),
-        busid: busid(),
+        path: padded(b"/deck/1-1"),
+        busid: padded(b"1-1"),
         busnum: 1,
         devnum: 15,
         speed: 0,

@@ -1,4 +1,2 @@
--- Bytes and packets as fields, and examples of the lines.
+-- Examples of the lines.
 pub mod Examples
-pub mod Fields
-pub mod Packets

@@ -7,36 +7,25 @@ ghost use Rattle.transmit.specs.Part.{behind, part_of, wire_length};
 
 use wire::codes::{DESCRIPTOR_LEN, DIR_IN, HEADER_LEN};
 
-// The bytes of `s` from `at` on, at most `most` of them. `at + most` is summed only where it lies in `s`, so that it
-// cannot wrap.
+// The bytes of `s` from `at` on, at most `most` of them. (No sum of the two, which could wrap.)
 fn window(s: &[u8], at: usize, most: usize) -> &[u8]
     ensures { result.now ≡ take most (drop at s.now) }
 {
-    let len = s.len();
-    if len <= at {
-        return &s[..0];
-    }
-    let left = len - at;
-    if most < left {
-        let end = at + most;
-        return &s[at..end];
-    }
-    &s[at..len]
+    let rest = &s[at.min(s.len())..];
+    &rest[..most.min(rest.len())]
 }
 
 // A header buffer of `len` bytes has no room for the header and `p` descriptors behind it. (By a quotient, so that nothing wraps.)
 fn too_short(len: usize, p: usize) -> bool
     ensures { result ≡ ltb len (HEADER-LEN + behind p) }
 {
-    if len < HEADER_LEN {
-        return true;
-    }
-    (len - HEADER_LEN) / DESCRIPTOR_LEN < p
+    len < HEADER_LEN || (len - HEADER_LEN) / DESCRIPTOR_LEN < p
 }
 
 // The part of a reply that goes out next, when `sent` bytes are out and at most `most` may go: of the header first, then
 // of the first `n` bytes of `data`, then of the `p` descriptors behind the header. A part is lent from one of the three, so
 // none runs on from one into the next.
+// (`n` and `p` stand beside the slices, as C hands them over: its buffers may be longer, or too short.)
 pub fn part<'a>(
     header: &'a [u8],
     data: &'a [u8],
@@ -68,10 +57,6 @@ pub fn part<'a>(
 pub fn wire_length(direction: u32, actual: u32, p: u32) -> u64
     ensures { result ≡ wire_length direction actual p }
 {
-    let header = HEADER_LEN as u64;
-    let tail = p as u64 * DESCRIPTOR_LEN as u64;
-    if direction == DIR_IN {
-        return header + actual as u64 + tail;
-    }
-    header + tail
+    let data = if direction == DIR_IN { actual } else { 0 };
+    HEADER_LEN as u64 + data as u64 + p as u64 * DESCRIPTOR_LEN as u64
 }

@@ -6,48 +6,52 @@ use mathlib.Core.List.{List, [], ◌∷◌, ◌++◌}
 use mathlib.Core.Option.{Option, none, some}
 use Rattle.wire.specs.Codes
 use Rattle.messages.specs.declared.message.Header.{Header}
-use Rattle.limits.specs.Limits
+use Rattle.std.specs.Prelude.{Result, Ok, Err, ⊤}
 use Rattle.ground.specs.Tests.{Test, test, first, decide}
-use Rattle.verdicts.specs.Verdicts.{admission_of, reading_of, acceptance_of, fault, transfer_tests, header_tests}
-use Rattle.verdicts.specs.declared.verdict.Admission.{Admission}
-use Rattle.verdicts.specs.declared.verdict.Admission.TheVariants.{Admitted, Refused}
-use Rattle.verdicts.specs.declared.verdict.Fault.{Fault}
-use Rattle.verdicts.specs.declared.verdict.Reading.{Reading}
-use Rattle.verdicts.specs.declared.verdict.Reading.TheVariants.{Sound, Faulty}
-use Rattle.verdicts.specs.declared.verdict.Acceptance.{Acceptance}
-use Rattle.verdicts.specs.declared.verdict.Acceptance.TheVariants.{Accepted, Answered}
+use Rattle.verdicts.specs.Numbers.{numbered}
+use Rattle.verdicts.specs.Verdicts.{verdict_of, fault, transfer_tests, header_tests}
+use Rattle.verdicts.specs.declared.verdict.FaultKind.TheVariants.{SeqnumPending}
 
 -- ## The first test that holds, by the code's answer
 
--- an answer that can be read back is that of one outcome only
-module _ {A R : Type 0} (of : Option A → R) (back : R → Option A) (none-back : back (of none) ≡ none) (some_back : (a : A) → back (of (some a)) ≡ some a) where
-  inverse : (o : Option A) → back (of o) ≡ o
-  inverse none = none-back
-  inverse (some a) = some_back a
+-- a verdict is that of one outcome only
+abbrev why : {E : Type 0} → Result ⊤ E → Option E
+why (Ok u) = none
+why (Err e) = some e
 
-  one_outcome : (o p : Option A) (v : R) → v ≡ of o → v ≡ of p → o ≡ p
-  one_outcome o p v e h = sym (inverse o) ∙ ap back (sym e ∙ h) ∙ inverse p
+inverse : {E : Type 0} (o : Option E) → why (verdict_of o) ≡ o
+inverse none = refl
+inverse (some e) = refl
 
-abbrev refusal_in : Admission → Option ℕ
-refusal_in Admitted = none
-refusal_in (Refused n) = some n
+of_verdict : {E : Type 0} (o : Option E) (v : Result ⊤ E) → v ≡ verdict_of o → o ≡ why v
+of_verdict o v e = sym (inverse o) ∙ ap why (sym e)
 
-abbrev fault_in : Reading → Option Fault
-fault_in Sound = none
-fault_in (Faulty f) = some f
+pub first_err : {E : Type 0} (o : Option E) (v : Result ⊤ E) (x : E) → v ≡ verdict_of o → v ≡ Err x → o ≡ some x
+first_err o v x e h = of_verdict o v e ∙ ap why h
 
-abbrev status_in : Acceptance → Option ℕ
-status_in Accepted = none
-status_in (Answered st) = some st
+pub first_ok : {E : Type 0} (o : Option E) (v : Result ⊤ E) (u : ⊤) → v ≡ verdict_of o → v ≡ Ok u → o ≡ none
+first_ok o v u e h = of_verdict o v e ∙ ap why h
 
-pub admission_first : (o p : Option ℕ) (v : Admission) → v ≡ admission_of o → v ≡ admission_of p → o ≡ p
-admission_first = one_outcome admission_of refusal_in refl (λ n. refl)
+-- ## A table with its numbers
 
-pub reading_first : (o p : Option Fault) (v : Reading) → v ≡ reading_of o → v ≡ reading_of p → o ≡ p
-reading_first = one_outcome reading_of fault_in refl (λ f. refl)
+pub first_numbered : {A : Type 0} (f : A → ℕ) (ts : List (Test A)) → first (numbered f ts) ≡ decide (first ts) (λ a. some (f a)) none
+unfolding decide
+first_numbered f [] = refl
+first_numbered f (t ∷ ts) = at t.holds (first_numbered f ts)
+  where
+    at : (c : Bool) → first (numbered f ts) ≡ decide (first ts) (λ a. some (f a)) none
+        → cond c (some (f t.answer)) (first (numbered f ts)) ≡ decide (cond c (some t.answer) (first ts)) (λ a. some (f a)) none
+    at true e = refl
+    at false e = e
 
-pub acceptance_first : (o p : Option ℕ) (v : Acceptance) → v ≡ acceptance_of o → v ≡ acceptance_of p → o ≡ p
-acceptance_first = one_outcome acceptance_of status_in refl (λ st. refl)
+pub decide_numbered {ℓ} : {A : Type 0} {B : Type ℓ} (f : A → ℕ) (ts : List (Test A)) (stop : ℕ → B) (go : B)
+    → decide (first (numbered f ts)) stop go ≡ decide (first ts) (λ a. stop (f a)) go
+unfolding decide
+decide_numbered f ts stop go = ap (λ o. decide o stop go) (first_numbered f ts) ∙ twice (first ts)
+  where
+    twice : (o : Option _) → decide (decide o (λ a. some (f a)) none) stop go ≡ decide o (λ a. stop (f a)) go
+    twice none = refl
+    twice (some a) = refl
 
 -- ## A table in two parts
 
@@ -63,6 +67,6 @@ first-append (t ∷ ts) us = at t.holds (first-append ts us)
 
 -- a submit: its own fields first, then whether its seqnum is pending
 pub submit-first : (h : Header) (devid : ℕ) (taken : Bool) → h.command ≡ Codes.CMD-SUBMIT
-    → let pending = fault Limits.SEQNUM-PENDING Codes.SEQNUM-AT in
+    → let pending = fault SeqnumPending Codes.SEQNUM-AT in
     first (header_tests h devid taken) ≡ decide (first (transfer_tests h.transfer)) some (cond taken (some pending) none)
-submit-first h devid taken e = rw e (first-append (transfer_tests h.transfer) (test (fault Limits.SEQNUM-PENDING Codes.SEQNUM-AT) taken ∷ []))
+submit-first h devid taken e = rw e (first-append (transfer_tests h.transfer) (test (fault SeqnumPending Codes.SEQNUM-AT) taken ∷ []))

@@ -19,8 +19,12 @@ use Rattle.ground.specs.Rows.{Row, row}
 use Rattle.verdicts.specs.Verdicts.{Not, fault, feed_tests, feed_rows, request_tests, request_rows, transfer_tests, transfer_rows, header_tests, header_rows}
 use Rattle.verdicts.specs.Verdicts.{unlink_tests, unlink_rows, submit_tests, submit_rows, completion_tests, completion_rows}
 use Rattle.verdicts.specs.Verdicts.{non_isochronous, NonIsochronous, good_count, short_read, ShortRead}
+use Rattle.std.specs.Prelude.{is_none, Option as Maybe, Some, None}
+use Rattle.verdicts.specs.Verdicts.{of_named}
+use Rattle.verdicts.specs.declared.verdict.Named.{Named}
 use Rattle.verdicts.specs.declared.verdict.Completing.{Completing}
 use Rattle.verdicts.specs.declared.verdict.Fault.{Fault}
+use Rattle.verdicts.specs.declared.verdict.FaultKind.TheVariants.{SeqnumPending, BadCommand}
 use Rattle.ground.proofs.Match.{Match, Decides, before, guarded, either_match}
 
 pub iff_refl : {P : Type 0} → P ↔ P
@@ -84,14 +88,14 @@ header_match h devid taken Taken Dirty t d =
     let unlink = eqb h.command Codes.CMD-UNLINK in
     let is : (submit ≡ true) ↔ submits = eqb_iff h.command Codes.CMD-SUBMIT in
     let un : (unlink ≡ true) ↔ unlinks = eqb_iff h.command Codes.CMD-UNLINK in
-    let pending = test (fault Limits.SEQNUM-PENDING Codes.SEQNUM-AT) taken ∷ [] in
-    let rows = row (fault Limits.SEQNUM-PENDING Codes.SEQNUM-AT) Taken ∷ [] in
+    let pending = test (fault SeqnumPending Codes.SEQNUM-AT) taken ∷ [] in
+    let rows = row (fault SeqnumPending Codes.SEQNUM-AT) Taken ∷ [] in
     let ts = transfer_tests h.transfer ++ pending in
     let rs = transfer_rows h.transfer ++ rows in
     let us = unlink_tests h devid in
     let qs = unlink_rows h devid Dirty in
-    before (test (fault Limits.BAD-COMMAND Codes.COMMAND-AT) (not (submit || unlink)))
-    (row (fault Limits.BAD-COMMAND Codes.COMMAND-AT) (Not h.command Codes.CMD-SUBMIT × Not h.command Codes.CMD-UNLINK))
+    before (test (fault BadCommand Codes.COMMAND-AT) (not (submit || unlink)))
+    (row (fault BadCommand Codes.COMMAND-AT) (Not h.command Codes.CMD-SUBMIT × Not h.command Codes.CMD-UNLINK))
     (cond submit ts us) (guarded submits rs ++ guarded unlinks qs) refl (neither is un)
     (λ known. either_match submits unlinks submit
     (λ e. (is.0 e, λ u. omega (arith, is.0 e)))
@@ -119,11 +123,16 @@ submit_match h devid bad pending accepted Bad b = (
   ),
 )
 
--- the last two rows are asked of the URB that the ticket names, where there is one
+-- what is asked of the URB that the ticket names, where there is one
+named_iff : (o : Maybe Named) (p : Named → Bool) (Q : Type 0) → is_none o ≡ false → ((u : Named) → o ≡ Some u → (p u ≡ true) ↔ Q) → (of_named o p ≡ true) ↔ Q
+named_iff None p Q h i = absurd (true≢false h)
+named_iff (Some u) p Q h i = i u refl
+
+-- the last two rows are asked of it
 pub completion_match : (c : Completing) (Closed Missing : Type 0) (Of : (ℕ → ℕ → Type 0) → Type 0) (Misfit : Type 0)
-    → (c.closed ≡ true) ↔ Closed → (not c.found ≡ true) ↔ Missing
-    → (not c.found ≡ false → (P : ℕ → ℕ → Type 0) → P c.length c.direction ↔ Of P)
-    → (not c.found ≡ false → (not c.fits ≡ true) ↔ Misfit)
+    → (c.closed ≡ true) ↔ Closed → (is_none c.urb ≡ true) ↔ Missing
+    → ((u : Named) → c.urb ≡ Some u → (P : ℕ → ℕ → Type 0) → P u.length u.direction ↔ Of P)
+    → ((u : Named) → c.urb ≡ Some u → (not u.fits ≡ true) ↔ Misfit)
     → Match (completion_tests c) (completion_rows c Closed Missing Of Misfit)
 completion_match c Closed Missing Of Misfit h m o k = (
   refl,
@@ -139,11 +148,11 @@ completion_match c Closed Missing Of Misfit h m o k = (
         iff_refl,
         λ _. (
           refl,
-          or_iff (iff_trans (leb_iff (suc c.length) c.actual) (o f (λ length direction. length < c.actual))) (k f),
+          named_iff c.urb _ _ f (λ u e. or_iff (iff_trans (leb_iff (suc u.length) c.actual) (o u e (λ length direction. length < c.actual))) (k u e)),
           λ _. (
             refl,
-            iff_trans (and_iff (eqb_iff c.direction Codes.DIR-IN) (leb_iff (suc c.payload) c.actual))
-                (o f (λ length direction. (direction ≡ Codes.DIR-IN) × (c.payload < c.actual))),
+            named_iff c.urb _ _ f (λ u e. iff_trans (and_iff (eqb_iff u.direction Codes.DIR-IN) (leb_iff (suc c.payload) c.actual))
+                (o u e (λ length direction. (direction ≡ Codes.DIR-IN) × (c.payload < c.actual)))),
             λ _. tt,
           ),
         ),

@@ -1,2 +1,3 @@
 -- What a reader of this crate must believe: the ordered tables of refusals, breaks and statuses.
+pub mod Numbers
 pub mod Verdicts

@@ -3,14 +3,15 @@
 ghost use Rattle.std.specs.Prelude.{◌≡◌, not, ◌&&◌, ◌||◌, eqb, ltb};
 ghost use Rattle.wire.specs.Codes;
 ghost use Rattle.ground.specs.Tests.{first};
-ghost use Rattle.verdicts.specs.Verdicts.{admission_of, reading_of, acceptance_of, fault, feed_tests, request_tests, transfer_tests, header_tests, submit_tests};
-ghost use Rattle.verdicts.specs.Verdicts.{unlink_tests, non_isochronous, good_count, completion_tests, short_read, status_sent};
+ghost use Rattle.verdicts.specs.Numbers.{refusal_number, fault_number};
+ghost use Rattle.verdicts.specs.Verdicts.{verdict_of, fault, feed_refusals, request_tests, transfer_tests, header_tests, submit_tests};
+ghost use Rattle.verdicts.specs.Verdicts.{unlink_tests, non_isochronous, good_count, completion_refusals, short_read, status_sent};
 
 use limits::{
-    BAD_CODE, BAD_COMMAND, BAD_DEVID, BAD_DIRECTION, BAD_LENGTH, BAD_PACKETS, BAD_VERSION,
-    DIRTY_PADDING, HEADER_ROOM, LAST_TICKET, MAX_EP, MAX_PACKETS, MAX_PENDING, MAX_TRANSFER,
-    MISFIT, NO_PACKETS, NOT_PENDING, REPLY_LEN, SEQNUM_PENDING, SESSION_CLOSED, SHORT_BUFFER,
-    SHORT_DATA, STATUS_ABOVE_0, WORK_LEN,
+    BAD_CODE, BAD_COMMAND, BAD_DEVID, BAD_DIRECTION, BAD_LENGTH, BAD_PACKETS, BAD_TABLE,
+    BAD_VERSION, DIRTY_PADDING, HEADER_ROOM, LAST_TICKET, MAX_EP, MAX_PACKETS, MAX_PENDING,
+    MAX_TRANSFER, MISFIT, NO_PACKETS, NOT_PENDING, REPLY_LEN, SEQNUM_PENDING, SESSION_CLOSED,
+    SHORT_BUFFER, SHORT_DATA, STATUS_ABOVE_0, WORK_LEN,
 };
 use messages::message::{Header, Transfer};
 use messages::request::Request;
@@ -21,56 +22,93 @@ use wire::codes::{
 };
 use wire::status::{MINUS_EINVAL, MINUS_ENODEV, MINUS_ENOMEM, MINUS_EREMOTEIO, is_positive};
 
-// An act is admitted, or refused by number.
-#[derive(Clone, Copy)]
-pub enum Admission {
-    Admitted,
-    Refused(u32),
+// Why an act is refused. PROTOCOL.md, 5 has the number of each.
+#[derive(Clone, Copy, Debug, PartialEq, Eq)]
+pub enum Refusal {
+    ShortBuffer,
+    BadTable,
+    SessionClosed,
+    NotPending,
+    StatusAbove0,
+    Misfit,
+    ShortData,
 }
 
-// A fault of the stream: its number, 10 to 18, and at which byte of its request or message it stands. Only the reader of a field
-// makes one.
-#[repr(C)]
-#[derive(Clone, Copy)]
+impl From<Refusal> for u32 {
+    ghost from_gives = { λ refusal number. number ≡ refusal_number refusal };
+
+    fn from(refusal: Refusal) -> u32 {
+        match refusal {
+            Refusal::ShortBuffer => SHORT_BUFFER,
+            Refusal::BadTable => BAD_TABLE,
+            Refusal::SessionClosed => SESSION_CLOSED,
+            Refusal::NotPending => NOT_PENDING,
+            Refusal::StatusAbove0 => STATUS_ABOVE_0,
+            Refusal::Misfit => MISFIT,
+            Refusal::ShortData => SHORT_DATA,
+        }
+    }
+}
+
+// What is wrong with a stream. PROTOCOL.md, 6 has the number of each.
+#[derive(Clone, Copy, Debug, PartialEq, Eq)]
+pub enum FaultKind {
+    BadVersion,
+    BadCode,
+    BadCommand,
+    BadDirection,
+    BadLength,
+    BadPackets,
+    SeqnumPending,
+    DirtyPadding,
+    BadDevid,
+}
+
+impl From<FaultKind> for u32 {
+    ghost from_gives = { λ kind number. number ≡ fault_number kind };
+
+    fn from(kind: FaultKind) -> u32 {
+        match kind {
+            FaultKind::BadVersion => BAD_VERSION,
+            FaultKind::BadCode => BAD_CODE,
+            FaultKind::BadCommand => BAD_COMMAND,
+            FaultKind::BadDirection => BAD_DIRECTION,
+            FaultKind::BadLength => BAD_LENGTH,
+            FaultKind::BadPackets => BAD_PACKETS,
+            FaultKind::SeqnumPending => SEQNUM_PENDING,
+            FaultKind::DirtyPadding => DIRTY_PADDING,
+            FaultKind::BadDevid => BAD_DEVID,
+        }
+    }
+}
+
+// A fault of the stream, and at which byte of its request or message it stands. Only the reader of a field makes one.
+#[derive(Clone, Copy, Debug, PartialEq, Eq)]
 pub struct Fault {
-    pub number: u32,
+    pub kind: FaultKind,
     pub at: usize,
 }
 
-// What the reader of a field answers.
-#[derive(Clone, Copy)]
-pub enum Reading {
-    Sound,
-    Faulty(Fault),
-}
-
-// A whole submit is accepted, or answered with a status, by its bits.
-#[derive(Clone, Copy)]
-pub enum Acceptance {
-    Accepted,
-    Answered(u32),
-}
-
-fn faulty(number: u32, at: usize) -> Reading
-    ensures { result ≡ Reading.Faulty (fault number at) }
+fn faulty(kind: FaultKind, at: usize) -> Result<(), Fault>
+    ensures { result ≡ Err (fault kind at) }
 {
-    Reading::Faulty(Fault { number, at })
+    Err(Fault { kind, at })
 }
 
 // A feed, before a byte is looked at: is the session closed, and how long are the buffers?
-pub fn feed_refusal(closed: bool, work: usize, reply: usize) -> Admission
-    ensures { result ≡ admission_of (first (feed_tests closed work reply)) }
+pub fn feed_refusal(closed: bool, work: usize, reply: usize) -> Result<(), Refusal>
+    ensures { result ≡ verdict_of (first (feed_refusals closed work reply)) }
 {
     if closed {
-        return Admission::Refused(SESSION_CLOSED);
+        return Err(Refusal::SessionClosed);
     }
     if work < WORK_LEN {
-        return Admission::Refused(SHORT_BUFFER);
+        return Err(Refusal::ShortBuffer);
     }
     if reply < REPLY_LEN {
-        return Admission::Refused(SHORT_BUFFER);
+        return Err(Refusal::ShortBuffer);
     }
-    Admission::Admitted
+    Ok(())
 }
 
 // The code of a request that is known.
@@ -84,19 +122,19 @@ fn good_code(code: u16) -> bool
 }
 
 // A request, when its 8th byte is in.
-pub fn request_fault(r: Request) -> Reading
-    ensures { result ≡ reading_of (first (request_tests r)) }
+pub fn request_fault(r: Request) -> Result<(), Fault>
+    ensures { result ≡ verdict_of (first (request_tests r)) }
 {
     if r.version != VERSION {
-        return faulty(BAD_VERSION, VERSION_AT);
+        return faulty(FaultKind::BadVersion, VERSION_AT);
     }
     if !good_code(r.code) {
-        return faulty(BAD_CODE, CODE_AT);
+        return faulty(FaultKind::BadCode, CODE_AT);
     }
     if r.status != 0 {
-        return faulty(DIRTY_PADDING, OP_STATUS_AT);
+        return faulty(FaultKind::DirtyPadding, OP_STATUS_AT);
     }
-    Reading::Sound
+    Ok(())
 }
 
 // By number_of_packets a transfer isn't isochronous.
@@ -120,19 +158,19 @@ fn good_count(packets: u32) -> bool
 }
 
 // A submit, by its own fields alone.
-pub fn transfer_fault(t: Transfer) -> Reading
-    ensures { result ≡ reading_of (first (transfer_tests t)) }
+pub fn transfer_fault(t: Transfer) -> Result<(), Fault>
+    ensures { result ≡ verdict_of (first (transfer_tests t)) }
 {
     if DIR_IN < t.direction {
-        return faulty(BAD_DIRECTION, DIRECTION_AT);
+        return faulty(FaultKind::BadDirection, DIRECTION_AT);
     }
     if MAX_TRANSFER < t.length {
-        return faulty(BAD_LENGTH, LENGTH_AT);
+        return faulty(FaultKind::BadLength, LENGTH_AT);
     }
     if !good_count(t.packets) {
-        return faulty(BAD_PACKETS, PACKETS_AT);
+        return faulty(FaultKind::BadPackets, PACKETS_AT);
     }
-    Reading::Sound
+    Ok(())
 }
 
 // A message for another device than the one that is attached.
@@ -143,74 +181,82 @@ fn for_another(h: Header, devid: u64) -> bool
 }
 
 // An unlink, by its own fields and the devid that is attached.
-pub fn unlink_fault(h: Header, devid: u64) -> Reading
-    ensures { result ≡ reading_of (first (unlink_tests h devid)) }
+pub fn unlink_fault(h: Header, devid: u64) -> Result<(), Fault>
+    ensures { result ≡ verdict_of (first (unlink_tests h devid)) }
 {
     if h.dirty < HEADER_LEN {
-        return faulty(DIRTY_PADDING, h.dirty);
+        return faulty(FaultKind::DirtyPadding, h.dirty);
     }
     if for_another(h, devid) {
-        return faulty(BAD_DEVID, DEVID_AT);
+        return faulty(FaultKind::BadDevid, DEVID_AT);
     }
-    Reading::Sound
+    Ok(())
 }
 
 // A message, when its 48th byte is in; taken says whether a submit's seqnum is pending.
-pub fn header_fault(h: Header, devid: u64, taken: bool) -> Reading
-    ensures { result ≡ reading_of (first (header_tests h devid taken)) }
+pub fn header_fault(h: Header, devid: u64, taken: bool) -> Result<(), Fault>
+    ensures { result ≡ verdict_of (first (header_tests h devid taken)) }
 {
     if h.command == CMD_UNLINK {
         return unlink_fault(h, devid);
     }
     if h.command != CMD_SUBMIT {
-        return faulty(BAD_COMMAND, COMMAND_AT);
+        return faulty(FaultKind::BadCommand, COMMAND_AT);
     }
-    let t = h.transfer;
-    if let Reading::Faulty(f) = transfer_fault(t) {
-        return Reading::Faulty(f);
-    }
+    transfer_fault(h.transfer)?;
     if taken {
-        return faulty(SEQNUM_PENDING, SEQNUM_AT);
+        return faulty(FaultKind::SeqnumPending, SEQNUM_AT);
     }
-    Reading::Sound
+    Ok(())
 }
 
 // A submit, when its last byte is in: by the devid that is attached, whether its packets are bad, and how many are pending and were ever
 // accepted.
-pub fn submit_status(h: Header, devid: u64, bad: bool, pending: usize, accepted: u64) -> Acceptance
-    ensures { result ≡ acceptance_of (first (submit_tests h devid bad pending accepted)) }
+pub fn submit_status(
+    h: Header,
+    devid: u64,
+    bad: bool,
+    pending: usize,
+    accepted: u64,
+) -> Result<(), u32>
+    ensures { result ≡ verdict_of (first (submit_tests h devid bad pending accepted)) }
 {
     if for_another(h, devid) {
-        return Acceptance::Answered(MINUS_ENODEV);
+        return Err(MINUS_ENODEV);
     }
     if MAX_EP < h.transfer.ep {
-        return Acceptance::Answered(MINUS_EINVAL);
+        return Err(MINUS_EINVAL);
     }
     if bad {
-        return Acceptance::Answered(MINUS_EINVAL);
+        return Err(MINUS_EINVAL);
     }
     if MAX_PENDING <= pending {
-        return Acceptance::Answered(MINUS_ENOMEM);
+        return Err(MINUS_ENOMEM);
     }
     if LAST_TICKET <= accepted {
-        return Acceptance::Answered(MINUS_ENOMEM);
+        return Err(MINUS_ENOMEM);
     }
-    Acceptance::Accepted
+    Ok(())
 }
 
-// What a completion is judged by: the session, the buffers' lengths (payload: the device data's), what it says, the length and
-// direction of the URB that was found under its ticket, and whether the completion's kind and packets fit that URB's.
+// What is asked of the URB that a completion names: its length and direction, and whether the completion's kind and packets fit it.
+#[derive(Clone, Copy)]
+pub struct Named {
+    pub length: u32,
+    pub direction: u32,
+    pub fits: bool,
+}
+
+// What a completion is judged by: the session, the buffers' lengths (payload: the device data's), what it says, and the URB that was
+// found under its ticket, if one was.
 #[derive(Clone, Copy)]
 pub struct Completing {
     pub closed: bool,
     pub header: usize,
-    pub found: bool,
     pub status: u32,
     pub actual: u32,
     pub payload: usize,
-    pub length: u32,
-    pub direction: u32,
-    pub fits: bool,
+    pub urb: Option<Named>,
 }
 
 // An IN transfer takes its data from the device's, payload bytes long.
@@ -223,31 +269,31 @@ fn short_data(direction: u32, payload: usize, actual: u32) -> bool
     payload < actual as usize
 }
 
-pub fn completion_refusal(c: Completing) -> Admission
-    ensures { result ≡ admission_of (first (completion_tests c)) }
+pub fn completion_refusal(c: Completing) -> Result<(), Refusal>
+    ensures { result ≡ verdict_of (first (completion_refusals c)) }
 {
     if c.closed {
-        return Admission::Refused(SESSION_CLOSED);
+        return Err(Refusal::SessionClosed);
     }
     if c.header < HEADER_ROOM {
-        return Admission::Refused(SHORT_BUFFER);
+        return Err(Refusal::ShortBuffer);
     }
-    if !c.found {
-        return Admission::Refused(NOT_PENDING);
-    }
+    let Some(urb) = c.urb else {
+        return Err(Refusal::NotPending);
+    };
     if is_positive(c.status) {
-        return Admission::Refused(STATUS_ABOVE_0);
+        return Err(Refusal::StatusAbove0);
     }
-    if c.length < c.actual {
-        return Admission::Refused(MISFIT);
+    if urb.length < c.actual {
+        return Err(Refusal::Misfit);
     }
-    if !c.fits {
-        return Admission::Refused(MISFIT);
+    if !urb.fits {
+        return Err(Refusal::Misfit);
     }
-    if short_data(c.direction, c.payload, c.actual) {
-        return Admission::Refused(SHORT_DATA);
+    if short_data(urb.direction, c.payload, c.actual) {
+        return Err(Refusal::ShortData);
     }
-    Admission::Admitted
+    Ok(())
 }
 
 // A read that came short, of a client that doesn't take it as good; status and actual length as given.

@@ -1,5 +1,4 @@
-use Rattle.std.proofs.Common.{◌-◌, ◌+◌, ◌≤◌, ◌≡◌, length}
-use Rattle.tape.specs.Layout
+use Rattle.std.proofs.Common.{◌≤◌, ◌≡◌, length}
 use Rattle.console.proofs.play_records.Given as goal
 
 -- the window lies in the input, and the lines in the output
@@ -8,8 +7,4 @@ invariant-loop-n g l =
     (l.window.at ≤ l.window.end)
     × (l.window.end ≤ length l.input)
     × (l.len ≤ length l.out)
-    × (l.n ≤ Layout.MAX-RECORDS + 1)
     × (length l.input ≡ length l.initial.input)
-
-abbrev pub decreases-loop-n : goal.decreases-loop-n
-decreases-loop-n g l = Layout.MAX-RECORDS + 1 - l.n

@@ -1,19 +1,17 @@
-use Prim.Native.Nat.{◌*◌}
 use native.Mathlib.Omega.{arith}
-use mathlib.Core.Path.{◌≡◌, sym}
-use lib.ListN.{length, take, replicate}
-use Rattle.limits.specs.Limits.{MAX-PACKETS, DESCRIPTORS-LEN}
-use Rattle.wire.specs.Codes.{DESCRIPTOR-LEN}
-use Rattle.descriptors.specs.Descriptors.{descriptors_of}
-use Rattle.descriptors.proofs.Laws.{front_length, wrote_front}
-use borrow.Author.Rules.{rules}
+use Rattle.descriptors.proofs.Laws.{written_none, written_more, written_each}
 use Rattle.descriptors.proofs.write_descriptors.Goals as goal
+
+pub returns-then-out-results : goal.returns-then-out-results
+returns-then-out-results c = written_none c.args.iso.now c.args.results.now c.args.out.now (omega arith)
+
+pub loop-i-preserved : goal.loop-i-preserved
+loop-i-preserved c =
+    let a = c.args in
+    written_more a.iso.now a.results.now c.loop-i.i a.out.now c.loop-i.out c.write_descriptor.new.out c.packet_in.result c.write_descriptor.result
+    (omega arith) (omega arith) c.loop-i.auto.out c.loop-i.invariant c.packet_in.ensures c.write_descriptor.ensures
 
 pub returns : goal.returns
 returns c =
-    let size : length c.args.list ≡ MAX-PACKETS = search rules in
     let a = c.args in
-    let n = a.count * DESCRIPTOR-LEN in
-    let D = descriptors_of a.iso (take a.count a.list) in
-    wrote_front D (replicate DESCRIPTORS-LEN 0) c.all_descriptors-all.result _ _ n _ c.all_descriptors-all.ensures
-    (sym (front_length a.count a.iso a.list (omega arith))) c.write.ensures
+    written_each a.iso.now a.results.now c.loop-i.i a.out.now c.loop-i.out (omega arith) (omega arith) c.loop-i.invariant

@@ -1,81 +1,46 @@
--- No reply, no room, or the whole.
+-- No room, or the whole.
 use native.Mathlib.Omega.{arith}
-use Prim.Native.Nat.{ℕ, ◌+◌}
 use mathlib.Core.Path.{◌≡◌}
-use mathlib.Core.Bool.{true, false, cond}
 use lib.ListN.{length}
-use Rattle.exports.specs.declared.device.Table.{Table}
-use Rattle.exports.specs.Devices.{devices_of}
-use Rattle.ground.specs.Lists.{every, joined}
+use Rattle.std.proofs.lemmas.List.{take-map}
+use Rattle.limits.specs.Limits.{MAX-DEVICES}
 use Rattle.ground.proofs.Parts.{wrote_none, wrote_over}
-use Rattle.listing.specs.Lists.{LIST-HEAD-LEN, few, listed_device, list_reply}
-use Rattle.listing.proofs.Lists.{wrote_no_list, no_list-length, too_many, listable_by, list_is, list_length, none-listed, some-listed}
+use Rattle.tables.proofs.Good.{as_many}
+use Rattle.records.specs.Records.{records_of}
+use Rattle.listing.specs.Lists.{list_reply}
+use Rattle.listing.proofs.Lists.{all_listed, reply_length, whole}
+use borrow.Author.Rules.{rules}
 use Rattle.listing.proofs.list_reply.Goals as goal
-
--- what a length says of the table that it is of
-module _ (t : Table) (len : ℕ) (e : len ≡ cond (every few (devices_of t)) (LIST-HEAD-LEN + length (joined listed_device (devices_of t))) 0) where
-  none : len ≡ 0 → every few (devices_of t) ≡ false
-  none z = none-listed (every few (devices_of t)) (length (joined listed_device (devices_of t))) len e z
-
-  some : (len ≡ 0 → ⊥) → (every few (devices_of t) ≡ true) × (len ≡ LIST-HEAD-LEN + length (joined listed_device (devices_of t)))
-  some z = some-listed (every few (devices_of t)) (length (joined listed_device (devices_of t))) len e z
-
-pub returns-then-n-gt-MAX_DEVICES-clause-wrote : goal.returns-then-n-gt-MAX_DEVICES-clause-wrote
-returns-then-n-gt-MAX_DEVICES-clause-wrote c =
-    let t = c.args.table in
-    wrote_no_list t c.args.reply.now (too_many t c.if-n-gt-MAX_DEVICES.true)
-
-pub returns-then-n-gt-MAX_DEVICES-clause-table_len_bound : goal.returns-then-n-gt-MAX_DEVICES-clause-table_len_bound
-returns-then-n-gt-MAX_DEVICES-clause-table_len_bound c =
-    let t = c.args.table in
-    omega (arith, no_list-length t (too_many t c.if-n-gt-MAX_DEVICES.true))
-
-pub returns-then-len-eq0-clause-wrote : goal.returns-then-len-eq0-clause-wrote
-returns-then-len-eq0-clause-wrote c =
-    let t = c.args.table in
-    let e = none t c.list_len-len.result c.list_len-len.ensures.value c.if-len-eq0.true in
-    wrote_no_list t c.args.reply.now (listable_by t c.if-n-gt-MAX_DEVICES.false false e)
-
-pub returns-then-len-eq0-clause-table_len_bound : goal.returns-then-len-eq0-clause-table_len_bound
-returns-then-len-eq0-clause-table_len_bound c =
-    let t = c.args.table in
-    let e = none t c.list_len-len.result c.list_len-len.ensures.value c.if-len-eq0.true in
-    omega (arith, no_list-length t (listable_by t c.if-n-gt-MAX_DEVICES.false false e))
-
-pub returns-then-reply-len-clause-wrote : goal.returns-then-reply-len-clause-wrote
-returns-then-reply-len-clause-wrote c =
-    let t = c.args.table in
-    let k = some t c.list_len-len.result c.list_len-len.ensures.value c.if-len-eq0.false in
-    let n = list_length t c.if-n-gt-MAX_DEVICES.false k.0 in
-    wrote_none (list_reply t) c.args.reply.now (omega (arith, n, k.1, c.if-reply-len.true))
-
-pub returns-then-reply-len-clause-table_len_bound : goal.returns-then-reply-len-clause-table_len_bound
-returns-then-reply-len-clause-table_len_bound c =
-    let t = c.args.table in
-    let k = some t c.list_len-len.result c.list_len-len.ensures.value c.if-len-eq0.false in
-    omega (arith, list_length t c.if-n-gt-MAX_DEVICES.false k.0, k.1, c.list_len-len.ensures.upper_bound)
 
 pub write_list-requires : goal.write_list-requires
 write_list-requires c =
-    let k = some c.args.table c.list_len-len.result c.list_len-len.ensures.value c.if-len-eq0.false in
+    let t = c.args.table in
+    let h = c.if-table-gt-MAX_DEVICES.false in
+    let is = c.listed-devices.ensures in
+    let size : length t.devices ≡ MAX-DEVICES = search rules in
+    let k = all_listed t _ c.list_len.result is h c.in-Some.len c.list_len.ensures.value c.in-Some.is in
     record {
-      count = c.if-n-gt-MAX_DEVICES.false;
-      bytes = c.table_interfaces-interfaces.ensures;
+      count = rw (is, as_many t size h) h;
+      bytes = rw (is, as_many t size h, c.table_interfaces.ensures) (take-map records_of t.count t.devices);
       each = k.0;
-      room = omega (arith, k.1, c.if-reply-len.false);
+      room = omega (arith, k.1, c.if-len-reply.true);
     }
 
-pub returns-clause-wrote : goal.returns-clause-wrote
-returns-clause-wrote c =
+pub returns-in-Some-clause-wrote : goal.returns-in-Some-clause-wrote
+returns-in-Some-clause-wrote c =
     let t = c.args.table in
-    let k = some t c.list_len-len.result c.list_len-len.ensures.value c.if-len-eq0.false in
-    let e = list_is t c.if-n-gt-MAX_DEVICES.false k.0 in
-    let n = list_length t c.if-n-gt-MAX_DEVICES.false k.0 in
-    wrote_over (list_reply t) c.args.reply.now _ _ (omega (arith, n, k.1, c.if-reply-len.false)) (rw e c.write_list.ensures.reply_after)
+    let h = c.if-table-gt-MAX_DEVICES.false in
+    let is = c.listed-devices.ensures in
+    let size : length t.devices ≡ MAX-DEVICES = search rules in
+    let k = all_listed t _ c.list_len.result is h c.in-Some.len c.list_len.ensures.value c.in-Some.is in
+    let n = reply_length t _ c.list_len.result is h c.in-Some.len c.list_len.ensures.value c.in-Some.is in
+    let e = whole t c.listed-devices.result.now c.list_len.result is h size k.0 in
+    wrote_over (list_reply t) c.args.reply.now _ _ (omega (arith, n, c.if-len-reply.true)) (rw e c.write_list.ensures.reply_after)
     (rw e c.write_list.ensures.value)
 
-pub returns-clause-table_len_bound : goal.returns-clause-table_len_bound
-returns-clause-table_len_bound c =
-    let t = c.args.table in
-    let k = some t c.list_len-len.result c.list_len-len.ensures.value c.if-len-eq0.false in
-    omega (arith, list_length t c.if-n-gt-MAX_DEVICES.false k.0, k.1, c.list_len-len.ensures.upper_bound)
+pub returns-in_default-clause-wrote : goal.returns-in_default-clause-wrote
+returns-in_default-clause-wrote c =
+    let n =
+    reply_length c.args.table _ c.list_len.result c.listed-devices.ensures c.if-table-gt-MAX_DEVICES.false c.in-Some.len c.list_len.ensures.value
+    c.in-Some.is in
+    wrote_none (list_reply c.args.table) c.args.reply.now (omega (arith, n, c.if-len-reply.false))

@@ -1,5 +1,5 @@
 use Rattle.ground.specs.Lists.{joined}
-use Prim.Native.Nat.{◌≤◌, ◌-◌, ◌+◌}
+use Prim.Native.Nat.{◌+◌}
 use mathlib.Core.Path.{◌≡◌}
 use mathlib.Core.List.{◌++◌}
 use lib.ListN.{length, take, drop}
@@ -9,10 +9,6 @@ use Rattle.listing.proofs.write_list.Given as goal
 
 abbrev pub invariant-loop-i : goal.invariant-loop-i
 invariant-loop-i l =
-    let ds = take l.n l.devices in
     let front = take LIST-HEAD-LEN l.initial.reply ++ joined listed_device (take l.i l.devices) in
-    (l.i ≤ l.n) × (l.at + length (joined listed_device (drop l.i ds)) ≡ LIST-HEAD-LEN + length (joined listed_device ds))
+    (l.at + length (joined listed_device (drop l.i l.devices)) ≡ LIST-HEAD-LEN + length (joined listed_device l.devices))
     × (length front ≡ l.at) × (l.reply ≡ over front l.initial.reply) × (length l.reply ≡ length l.initial.reply)
-
-abbrev pub decreases-loop-i : goal.decreases-loop-i
-decreases-loop-i l = l.n - l.i

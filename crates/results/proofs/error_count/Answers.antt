@@ -1,12 +1,13 @@
 use mathlib.Core.Path.{◌≡◌, sym, ◌∙◌}
-use lib.ListN.{length}
+use mathlib.Core.Bool.{not}
+use lib.Dec.{eqb}
 use borrow.Author.Rules.{rules}
-use Rattle.ground.proofs.Lists.{unmapped}
-use Rattle.limits.specs.Limits.{MAX-PACKETS}
-use Rattle.results.proofs.Laws.{errors_full}
+use Rattle.std.specs.List.{count_by}
+use Rattle.results.specs.declared.PacketResult.{PacketResult}
+use Rattle.results.proofs.Laws.{errors-by, errors-counted}
 use Rattle.results.proofs.error_count.Goals as goal
 
 pub returns : goal.returns
 returns c =
-    let shaped : length c.args.r.list ≡ MAX-PACKETS = search (unmapped, rules) in
-    c.errors_of-2.ensures ∙ sym (errors_full c.args.r shaped c.if-r-lt-MAX_PACKETS.false)
+    let n : c.count.result ≡ count_by (λ (r : PacketResult). not (eqb r.status 0)) c.listed.result.now = search rules in
+    n ∙ sym (errors-counted c.args.r ∙ rw (← c.listed.ensures.front) (errors-by c.listed.result.now))

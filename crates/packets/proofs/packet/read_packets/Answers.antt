@@ -1,7 +1,10 @@
 use native.Mathlib.Omega.{arith}
-use Rattle.packets.proofs.Reading.{read_more}
+use lib.ListN.{length-take}
+use Rattle.packets.proofs.Reading.{read_all}
 use Rattle.packets.proofs.packet.read_packets.Goals as goal
 
-pub loop-i-preserved : goal.loop-i-preserved
-loop-i-preserved c =
-    (omega arith, rw (c.loop-i.invariant.1, c.packet_at-p.ensures) (read_more c.args.descriptors c.loop-i.i (omega arith)))
+pub returns : goal.returns
+returns c =
+    rw c.no_packets-out.ensures
+    (read_all c.loop-i.place-items c.args.count c.loop-i.i c.args.descriptors (omega (arith, length-take c.args.count c.no_packets-out.result))
+    (omega (arith, length-take c.args.count c.no_packets-out.result)) c.loop-i.invariant)

@@ -9,14 +9,9 @@ use Rattle.player.proofs.feed.play_stream.Given as goal
 
 abbrev pub invariant-loop-turn : goal.invariant-loop-turn
 invariant-loop-turn l =
-    (l.size ≡ length l.bytes)
-    × (l.at ≤ l.size)
-    × (l.turn ≤ l.size)
+    (l.at ≤ length l.bytes)
     × (length l.work ≡ length l.initial.work)
     × (length l.reply ≡ length l.initial.reply)
     × (length l.out ≡ length l.initial.out)
     × Going (play_stream l.traced (length l.bytes) (view_of l.initial.s) (lent l.initial.work l.initial.reply) l.bytes)
-    (play_stream l.traced (l.size - l.turn) (view_of l.s) (lent l.work l.reply) (drop l.at l.bytes)) l.initial.out l.out l.len
-
-abbrev pub decreases-loop-turn : goal.decreases-loop-turn
-decreases-loop-turn l = l.size - l.turn
+    (play_stream l.traced (length l.bytes - l.turn) (view_of l.s) (lent l.work l.reply) (drop l.at l.bytes)) l.initial.out l.out l.len

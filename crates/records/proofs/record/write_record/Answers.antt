@@ -8,18 +8,13 @@ use borrow.Rule.Slice.PartMut.{same_len_mid}
 use Rattle.wire.specs.Codes.{BUSID-LEN}
 use Rattle.wire.specs.Fields.{pack}
 use Rattle.wire.proofs.Heads.{pack-length}
-use Rattle.ground.proofs.Parts.{wrote_none, wrote_all, wrote_over, written_next}
+use Rattle.ground.proofs.Parts.{wrote_all, wrote_over, written_next}
 use Rattle.limits.specs.Limits.{PATH-LEN}
 use Rattle.records.specs.Records.{NUMBERS-LEN, DEVICE-LEN, Shaped, number_fields, device_record}
 use Rattle.ground.proofs.Lists.{unmapped}
 use Rattle.records.proofs.Records.{record_length}
 use borrow.Author.Rules.{rules}
 use Rattle.records.proofs.record.write_record.Goals as goal
-
-pub returns-then-out-lt-DEVICE_LEN : goal.returns-then-out-lt-DEVICE_LEN
-returns-then-out-lt-DEVICE_LEN c =
-    let shaped : Shaped c.args.d = search (unmapped, rules) in
-    wrote_none (device_record c.args.d) c.args.out.now (rw (record_length c.args.d shaped) c.if-out-lt-DEVICE_LEN.true)
 
 pub returns : goal.returns
 unfolding device_record
@@ -35,8 +30,8 @@ returns c =
     written_next D c.write.new.out d.path d.busid c.write-2.new.out PATH-LEN _ c.write-2.result refl h.0 e1 (omega arith)
     c.write-2.ensures in
     let l2 = same_len_mid PATH-LEN (length c.write.new.out - PATH-LEN) c.write.new.out c.write-2.new.out c.write-2.auto.out ∙ l1 in
-    let tail = c.numbers-tail.result in
-    let t : tail ≡ pack (number_fields d) = c.numbers-tail.ensures in
+    let tail = c.numbers.result in
+    let t : tail ≡ pack (number_fields d) = c.numbers.ensures in
     let lt : length tail ≡ NUMBERS-LEN = ap length t ∙ pack-length (number_fields d) in
     let e3 =
     written_next D _ (d.path ++ d.busid) tail c.write-3.new.out (PATH-LEN + BUSID-LEN) _ c.write-3.result refl

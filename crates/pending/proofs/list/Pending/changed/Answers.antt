@@ -1,31 +1,20 @@
-use borrow.Author.Rules.{rules}
-use mathlib.Core.Path.{◌≡◌, sym, ◌∙◌}
-use Prim.Native.Nat.{ℕ}
-use mathlib.Core.List.{List, map}
-use lib.ListN.{length, length-map}
+use Rattle.std.proofs.Common.{rules, ◌≡◌, length, arith, refl}
+use lib.Seq.{set_out}
 use Rattle.limits.specs.Limits.{MAX-PENDING}
-use Rattle.pending.specs.Pending.{Whole}
 use Rattle.pending.specs.Changes.{changed}
-use Rattle.pending.proofs.Laws.{still_is}
-use Rattle.pending.proofs.Walks.{blank-all}
 use Rattle.pending.proofs.list.Pending.changed.Goals as goal
-
-unmapped : (X Y : Type 0) (f : X → Y) (l : List X) (n : ℕ) → length (map f l) ≡ n → length l ≡ n
-unmapped X Y f l n h = sym (length-map l f) ∙ h
-
-pub returns-then-is_still : goal.returns-then-is_still
-returns-then-is_still c =
-    let whole : Whole c.args.self = search (unmapped, rules) in
-    still_is c.args.self c.args.c whole (sym c.is_still.ensures ∙ c.if-is_still.true)
+use Rattle.pending.proofs.list.Pending.changed.Goals.{then-c-lt-MAX_PENDING, else-c-lt-MAX_PENDING}
 
 pub returns : goal.returns
 unfolding changed
 returns c =
-    let size : length c.set_at-put.result ≡ MAX-PENDING = search rules in
-    rw (
-      c.blank_first-blank.ensures,
-      c.lower-dropped.ensures,
-      blank-all c.set_at-put.result c.args.c.dropped MAX-PENDING size,
-      c.set_at-put.ensures,
-      c.move_part-down.ensures,
-    )
+    let size : length c.shift_down.new.urbs ≡ MAX-PENDING = search rules in
+    elim c.if-c-lt-MAX_PENDING.branch [
+      | then-c-lt-MAX_PENDING w ↦ rw (c.blank_first.ensures, w.self-is, c.shift_down.ensures) refl
+      | else-c-lt-MAX_PENDING w ↦ rw (
+        c.blank_first.ensures,
+        w.self-is,
+        ← c.shift_down.ensures,
+        set_out c.shift_down.new.urbs c.args.c.place c.args.c.urb (omega (arith, size, w.if-c-lt-MAX_PENDING.false)),
+      ) refl
+    ]

@@ -1,6 +1,4 @@
 use Prim.Native.Nat.{◌≤◌}
-use mathlib.Core.Path.{◌≡◌}
-use lib.ListN.{length}
 use Rattle.pending.specs.Pending.{Whole}
 use Rattle.ground.proofs.Lists.{unmapped}
 use Rattle.limits.specs.Limits
@@ -10,23 +8,21 @@ use Rattle.session.proofs.state.Session.settle.Goals as goal
 
 pub write_header-requires : goal.write_header-requires
 write_header-requires c =
-    let results : length c.args.given.results.list ≡ Limits.MAX-PACKETS = search (unmapped, rules) in
     let whole : Whole c.args.self.pending = search (unmapped, rules) in
     let counted : c.args.self.link.counts.accepted ≤ Limits.LAST-TICKET = search (unmapped, rules) in
     let a = c.args in
     (completion_planned a.self a.given a.ticket a.payload.now a.header.now c.look-look.result c.plan_completion-plan.result
-    whole results counted c.look-look.ensures c.plan_completion-plan.ensures).fits
+    whole c.requires counted c.look-look.ensures c.plan_completion-plan.ensures).fits
 
 pub returns : goal.returns
 returns c =
-    let results : length c.args.given.results.list ≡ Limits.MAX-PACKETS = search (unmapped, rules) in
     let whole : Whole c.args.self.pending = search (unmapped, rules) in
     let counted : c.args.self.link.counts.accepted ≤ Limits.LAST-TICKET = search (unmapped, rules) in
     let a = c.args in
     record {
       completes = completes_by a.self a.given a.ticket a.payload.now a.header.now c.look-look.result c.plan_completion-plan.result
-          whole results counted c.look-look.ensures c.plan_completion-plan.ensures _ c.changed-pending.result c.changed-pending.ensures
+          whole c.requires counted c.look-look.ensures c.plan_completion-plan.ensures _ c.changed-pending.result c.changed-pending.ensures
           c.write_header.ensures;
       value = complete-value a.self a.given a.ticket a.payload.now a.header.now c.look-look.result c.plan_completion-plan.result
-          whole results counted c.look-look.ensures c.plan_completion-plan.ensures c.changed-pending.result c.changed-pending.ensures;
+          whole c.requires counted c.look-look.ensures c.plan_completion-plan.ensures c.changed-pending.result c.changed-pending.ensures;
     }

@@ -1,8 +1,0 @@
-use Rattle.session.proofs.Writing.{refusal_length}
-use Rattle.events.specs.Plans.{reply_bytes}
-use Rattle.std.proofs.Common.{◌≤◌, length, ap, arith}
-use Rattle.limits.specs.Limits
-use Rattle.session.proofs.carry.write_reply.Goals as goal
-
-pub returns-in-Submit-clause-reply_len_bound : goal.returns-in-Submit-clause-reply_len_bound
-returns-in-Submit-clause-reply_len_bound c = rw c.in-Submit.is (refusal_length c.args.iso c.in-Submit.ret)
