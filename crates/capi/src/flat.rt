@@ -134,6 +134,19 @@ fn removed_ticket(removed: Option<u64>) -> u64
     }
 }
 
+// An event that is replied with a status, of a seqnum where it has one.
+fn replied(bare: FlatEvent, kind: u32, seqnum: u32, status: u32, removed: u64) -> FlatEvent
+    ensures { result ≡ event_row kind bare.number status seqnum bare.at removed bare.ticket bare.transfer bare.setup bare.arrival bare.iso }
+{
+    FlatEvent {
+        kind: kind,
+        seqnum: seqnum,
+        status: status,
+        removed: removed,
+        ..bare
+    }
+}
+
 pub(crate) fn flat_event(
     event: Event,
     setup: [u8; SETUP_LEN],
@@ -141,45 +154,32 @@ pub(crate) fn flat_event(
 ) -> FlatEvent
     ensures { result ≡ flat_event event setup iso }
 {
-    let bare = bare(setup, iso);
+    let none = bare(setup, iso);
     match event {
-        Event::Hungry => bare,
-        Event::List => FlatEvent { kind: LIST, ..bare },
-        Event::Import(status) => FlatEvent {
-            kind: IMPORT,
-            status: status,
-            ..bare
-        },
+        Event::Hungry => none,
+        Event::List => FlatEvent { kind: LIST, ..none },
+        Event::Import(status) => replied(none, IMPORT, 0, status, 0),
         Event::Submit(ticket, arrival, transfer) => FlatEvent {
             kind: SUBMIT,
             ticket: ticket,
             arrival: arrival,
             transfer: transfer,
-            ..bare
+            ..none
         },
-        Event::Answer(seqnum, status) => FlatEvent {
-            kind: ANSWER,
-            seqnum: seqnum,
-            status: status,
-            ..bare
-        },
-        Event::Unlink(seqnum, status, removed) => FlatEvent {
-            kind: UNLINK,
-            seqnum: seqnum,
-            status: status,
-            removed: removed_ticket(removed),
-            ..bare
-        },
+        Event::Answer(seqnum, status) => replied(none, ANSWER, seqnum, status, 0),
+        Event::Unlink(seqnum, status, removed) => {
+            replied(none, UNLINK, seqnum, status, removed_ticket(removed))
+        }
         Event::Break(fault) => FlatEvent {
             kind: BREAK,
             number: u32::from(fault.kind),
             at: fault.at,
-            ..bare
+            ..none
         },
         Event::Refused(refusal) => FlatEvent {
             kind: REFUSED,
             number: u32::from(refusal),
-            ..bare
+            ..none
         },
     }
 }

@@ -17,9 +17,9 @@ pub enum Reply {
     Unlink(RetUnlink),
 }
 
-// The next link, the change of the pending list, the event and the bytes consumed, the reply, if there is one, and the packets that it sends back; the
-// bytes of the piece from `from` up to `to` go to place `body` of the work buffer. What stands beside the event, setup bytes and packets, is
-// that of the URB that the change sets.
+// The next link, the change of the pending list, the event and the bytes consumed, the reply, if there is one, and the packets that it
+// sends back; the bytes of the piece from `from` up to `to` go to place `body` of the work buffer. What stands beside the event, setup
+// bytes and packets, is that of the URB that the change sets.
 #[derive(Clone, Copy)]
 pub struct Plan {
     pub link: Link,

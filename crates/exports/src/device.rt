@@ -2,6 +2,7 @@
 ghost use Rattle.std.specs.Prelude.{◌≡◌};
 ghost use Rattle.exports.specs.Devices.{devices_of};
 
+use ground::part::front;
 use limits::{MAX_DEVICES, MAX_INTERFACES, PATH_LEN};
 use wire::codes::BUSID_LEN;
 
@@ -13,7 +14,7 @@ pub struct Interface {
     pub bInterfaceProtocol: u8,
 }
 
-// A device under its USB descriptors' names. Of its interfaces the first bNumInterfaces count.
+// A device under its USB descriptors' names. Of its interfaces the first bNumInterfaces count. (An array and a count: C hands it in.)
 #[repr(C)]
 #[derive(Clone, Copy)]
 pub struct Device {
@@ -47,7 +48,6 @@ impl Table {
     pub fn listed(&self) -> &[Device]
         ensures { result.now ≡ devices_of self.now }
     {
-        let n = self.count.min(MAX_DEVICES);
-        &self.devices[..n]
+        front(&self.devices, self.count)
     }
 }

@@ -10,7 +10,7 @@ use Rattle.exports.specs.declared.device.Table.{Table}
 use Rattle.pending.specs.declared.counts.Counts.{Counts}
 use Rattle.pending.specs.declared.list.Pending.{Pending}
 use Rattle.limits.specs.Limits
-use Rattle.model.specs.State.{Sess, partly, headed, with_link, in_phase}
+use Rattle.model.specs.State.{partly, headed, with_link, in_phase}
 use Rattle.links.specs.Links.{Parts, counts_fit, progress_fits, phase_of, descriptors_in, message_of, bare_of, view_of_parts, whole, resting, Live}
 use Rattle.links.specs.declared.link.Progress.{Progress}
 

@@ -61,7 +61,7 @@ fn progress_fits(phase: u8, p: Progress) -> bool
 }
 
 impl Standing {
-    // The phase; a standing whose parts don't fit together, as no act leaves one, is taken for closed.
+    // The phase, a number as the link has it; a standing whose parts don't fit together, as no act leaves one, is taken for closed.
     pub fn phase(self) -> u8
         ensures { result ≡ phase_of self.link self.pending }
     {

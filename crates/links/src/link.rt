@@ -8,7 +8,8 @@ use pending::counts::Counts;
 use wire::codes::HEADER_LEN;
 
 // The message in progress: the first filled bytes of its header; or, where they are all there, the header as read, how many bytes of
-// its body came, and those of them that are descriptors' (its own copy: the work buffer is the caller's). What isn't in use is 0.
+// its body came, and those of them that are descriptors' (its own copy: the work buffer is the caller's). What isn't in use is 0. (Arrays and counts: C
+// holds it in a session.)
 #[repr(C)]
 #[derive(Clone, Copy)]
 pub struct Progress {
@@ -67,13 +68,7 @@ pub fn resting_link(phase: u8, devid: u64, counts: Counts) -> Link
 pub fn fresh_link(phase: u8) -> Link
     ensures { result ≡ fresh_link phase }
 {
-    let counts = Counts {
-        accepted: 0,
-        returned: 0,
-        unlinked: 0,
-        dropped: 0,
-    };
-    resting_link(phase, 0, counts)
+    resting_link(phase, 0, Counts::default())
 }
 
 // A count with so many more; one that would pass the last ticket stays as it is. (Of counts that fit together none is above the

@@ -20,7 +20,8 @@ use wire::number::BigEndian;
 // The bytes of a list reply before its first device.
 const LIST_HEAD_LEN: usize = OP_LEN + 4;
 
-// Writes a device as a list shows it at the front of a buffer that has room, and answers how many bytes it wrote.
+// Writes a device as a list shows it at the front of a buffer that has room, and answers how many bytes it wrote. (The bound: its
+// interfaces are in their array.)
 #[tactic(auto, using(crate::proofs::Lists::listed_length, ground::proofs::Lists::unmapped))]
 fn write_device(out: &mut [u8], d: Device, records: [[u8; INTERFACE_LEN]; MAX_INTERFACES]) -> usize
     requires { (d.bNumInterfaces ≤ MAX-INTERFACES) × (records ≡ records_of d) × (length (listed_device d) ≤ length out.old) }

@@ -16,7 +16,8 @@ fn busid_of(d: &Device) -> [u8; BUSID_LEN]
     d.busid
 }
 
-// The first of the devices that has the busid. (The outer loop is no `for`: docs/DECISIONS.md names its `break` with the index.)
+// The first of the devices that has the busid. (docs/DECISIONS.md names this form: a loop over the bytes, a `continue`
+// with a label, and a `break` with the index.)
 fn find_busid(devices: &[Device], busid: [u8; BUSID_LEN]) -> Option<usize>
     ensures { result ≡ find_busid busid devices.now }
 {

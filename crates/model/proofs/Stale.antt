@@ -16,7 +16,7 @@ use Rattle.ground.specs.Tests.{by_test}
 use Rattle.ground.proofs.Cases.{differ}
 use Rattle.limits.specs.Limits
 use Rattle.model.specs.State.{Sess}
-use Rattle.model.specs.Answers.{Outcome, refused, done}
+use Rattle.model.specs.Answers.{refused, done}
 use Rattle.model.specs.Acts.{stale_of}
 use Rattle.model.specs.Book.{close, Item, Book, pending_of}
 use Rattle.model.specs.Claims.{close_rows_by, Agrees}

@@ -3,12 +3,11 @@ use Prim.Native.Nat.{ℕ}
 use native.Mathlib.Omega.{arith}
 use mathlib.Core.Path.{◌≡◌, refl, sym, subst, ◌∙◌}
 use mathlib.Core.Logic.{◌↔◌}
-use mathlib.Core.Bool.{true, false, not, true≢false}
+use mathlib.Core.Bool.{true, not, true≢false}
 use mathlib.Core.List.{List}
 use mathlib.Core.Option.{Option, none, some}
 use lib.ListN.{length, drop}
 use Rattle.messages.specs.Messages.{header_of, iso_count}
-use Rattle.messages.specs.declared.message.Transfer.{Transfer}
 use Rattle.ground.proofs.Tests.{not_iff, refutes, iff_trans}
 use Rattle.ground.proofs.Cases.{by_cond}
 use Rattle.pending.specs.Pending.{ticket_of, seqnum_of, find_by, found, ticket_place, urb_at}
@@ -24,7 +23,7 @@ use Rattle.model.specs.State.{Sess, closed}
 use Rattle.model.specs.Judging.{submit_tests_of, header_tests_of}
 use Rattle.std.specs.Prelude.{is_none, Some}
 use Rattle.verdicts.specs.declared.verdict.Named.{Named}
-use Rattle.model.specs.Acts.{named_by, Buffers, feed_tests_of, Kind, Completion, the_transfer, the_packets, kind_fits, completing, completion_tests_of}
+use Rattle.model.specs.Acts.{named_by, Buffers, feed_tests_of, Completion, kind_fits, completing, completion_tests_of}
 use Rattle.model.specs.Book.{Book, Item, pending_of, SomePending, NonePending}
 use Rattle.model.specs.Claims.{header, Counted, Holder, Misfit, feed_rows_by, completion_rows_by, header_rows_by, descriptors_at, BadPackets}
 use Rattle.model.specs.Claims.{submit_rows_by, SentAs}

@@ -19,7 +19,7 @@ use Rattle.std.specs.Prelude.{Option as Maybe, Some, None}
 use Rattle.importing.specs.Imports.{import_reply, import_refusal}
 use Rattle.listing.specs.Lists.{list_reply}
 use Rattle.transmit.specs.Part.{wire_length}
-use Rattle.pending.specs.Pending.{no_transfer, seqnum_of, tickets, found, Place, place_by, ticket_place, urb_at, without_at}
+use Rattle.pending.specs.Pending.{no_transfer, seqnum_of, tickets, Place, place_by, ticket_place, urb_at, without_at}
 use Rattle.pending.specs.declared.counts.Counts.{Counts}
 use Rattle.pending.specs.declared.urb.Urb.{Urb}
 use Rattle.ages.specs.Ages.{stale_in}

@@ -18,7 +18,8 @@ const PACKETS_LEN: usize = WORD_LEN + MAX_PACKETS * (2 * FIELD_LEN) + 1;
 
 const TEXT_LEN: usize = PACKETS_LEN;
 
-// The first len bytes are the text. (A plain array with a length: no heap, and the kit's ArrayString takes text alone, its ArrayVec isn't Copy.)
+// The first len bytes are the text. (A plain array with a length: no heap, and the kit's ArrayString takes text alone, its ArrayVec isn't Copy.
+// It is plain data, which anyone can make: so `begun`, `put` and `put_bytes` ask for a length.)
 #[derive(Clone, Copy)]
 pub struct Text {
     pub bytes: [u8; TEXT_LEN],

@@ -2,7 +2,7 @@
 
 // How many URBs were ever accepted, and what became of those that are no longer pending.
 #[repr(C)]
-#[derive(Clone, Copy)]
+#[derive(Clone, Copy, Default)]
 pub struct Counts {
     pub accepted: u64,
     pub returned: u64,

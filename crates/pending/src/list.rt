@@ -5,6 +5,7 @@ ghost use Rattle.ground.specs.Writing.{over};
 ghost use Rattle.pending.specs.Pending.{list_of, tickets, empty_pending, listing};
 
 use crate::urb::Urb;
+use ground::part::front;
 use limits::MAX_PENDING;
 
 // The first count URBs are the list. (An array and a count: C holds it in a session.)
@@ -21,13 +22,6 @@ pub struct Pending {
 pub struct Tickets {
     pub tickets: [u64; MAX_PENDING],
     pub count: usize,
-}
-
-// The first n, or all where there are fewer.
-pub fn first(urbs: &[Urb], n: usize) -> &[Urb]
-    ensures { result.now ≡ take n urbs.now }
-{
-    &urbs[..n.min(urbs.len())]
 }
 
 // The tickets of a list go to the front of `out`; what stands behind them stays. (The bound is the room of `out`, which has a fixed place.)
@@ -62,14 +56,14 @@ impl Pending {
     pub fn as_slice(&self) -> &[Urb]
         ensures { result.now ≡ list_of self.now }
     {
-        first(&self.urbs, self.count)
+        front(&self.urbs, self.count)
     }
 
     // The tickets of the first n, lowest place first.
     pub fn tickets(self, n: usize) -> Tickets
         ensures { result ≡ listing (take n (list_of self)) }
     {
-        let urbs = first(self.as_slice(), n);
+        let urbs = front(self.as_slice(), n);
         let mut tickets = [0; MAX_PENDING];
         put_tickets(urbs, &mut tickets);
         Tickets {

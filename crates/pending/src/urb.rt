@@ -21,7 +21,7 @@ pub struct Urb {
 }
 
 impl Urb {
-    // What stands in a free place.
+    // What stands in a free place. (A literal: that a derived default has these arrays is not found.)
     pub fn blank() -> Urb
         ensures { result ≡ blank }
     {

@@ -7,6 +7,7 @@ ghost use Rattle.events.specs.Answers.{event_of, completion_of};
 ghost use Rattle.player.specs.Prints.{Puts, data_length, data_traces, submit_traces, event_traces, feed_traces, feed_text, completion_text};
 
 use events::answer::{Answer, Event, Returned};
+use ground::part::front;
 use limits::MAX_PACKETS;
 use lines::replay::{complete_line, feed_lines};
 use messages::message::Transfer;
@@ -15,13 +16,6 @@ use pending::list::Tickets;
 use traces::{trace_data, trace_feed, trace_header, trace_packets, trace_record, trace_removed};
 use verdicts::verdict::Refusal;
 use wire::codes::{DIR_OUT, SETUP_LEN};
-
-// The first n bytes, or as many as there are.
-pub(crate) fn front(bytes: &[u8], n: usize) -> &[u8]
-    ensures { result.now ≡ take n bytes.now }
-{
-    &bytes[..n.min(bytes.len())]
-}
 
 // How many bytes of data came with a submit.
 fn data_len(direction: u32, length: u32) -> usize

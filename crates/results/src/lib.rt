@@ -5,6 +5,7 @@ ghost use Rattle.std.specs.Prelude.{◌≡◌, ◌≤◌, length, take, replicat
 ghost use Rattle.limits.specs.Limits.{MAX-PACKETS};
 ghost use Rattle.results.specs.Results.{packet_result, no_results, results_of, sum, errors, all_within, results_fit};
 
+use ground::part::front;
 use limits::MAX_PACKETS;
 use packets::packet::Packet;
 
@@ -47,7 +48,7 @@ impl Results {
         ensures front { result.now ≡ take self.now.count self.now.list }
         ensures few { length result.now ≤ MAX-PACKETS }
     {
-        &self.list[..self.count.min(MAX_PACKETS)]
+        front(&self.list, self.count)
     }
 
     // In 64 bits, where the sum of MAX_PACKETS numbers of 32 is exact.

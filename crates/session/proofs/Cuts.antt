@@ -6,7 +6,7 @@ use mathlib.Core.Path.{◌≡◌, refl, sym, ap, subst, ◌∙◌}
 use mathlib.Core.Bool.{Bool, true, false, cond}
 use mathlib.Core.List.{List, [], ◌∷◌, ◌++◌, map, map-append, append_assoc, flatten}
 use mathlib.Core.Option.{none, some}
-use lib.ListN.{length, take, drop, length-append, length-drop, take-append-drop}
+use lib.ListN.{take, drop, length-append, length-drop, take-append-drop}
 use lib.Seq.{length-sets}
 use Rattle.packets.specs.declared.packet.Packet.{Packet}
 use Rattle.pending.specs.declared.list.Tickets.{Tickets}

@@ -1,21 +1,18 @@
 -- What an inquiry hands back is what the definitions say.
 use Prim.Native.Nat.{ℕ}
-use mathlib.Core.Path.{◌≡◌, refl, sym, ap, subst, ◌∙◌}
-use mathlib.Core.List.{[]}
+use mathlib.Core.Path.{◌≡◌}
 use lib.ListN.{take, length-map}
 use borrow.Author.Tests.{eq-eqb, ne_eqb}
 use Rattle.ages.specs.Ages.{stale_in}
-use Rattle.pending.specs.Pending.{ticket_of, tickets, list_of, listing}
+use Rattle.pending.specs.Pending.{ticket_of, list_of, listing}
 use Rattle.pending.specs.declared.list.Tickets.{Tickets}
 use Rattle.pending.proofs.Laws.{tickets_view}
 use Rattle.limits.specs.Limits
 use Rattle.ground.specs.Tests.{pick}
-use Rattle.model.specs.Answers.{Outcome, refused, done}
 use Rattle.model.specs.Acts.{stale_of}
 use Rattle.links.specs.Links.{phase_of}
 use Rattle.std.specs.Prelude.{Ok, Err}
 use Rattle.verdicts.specs.declared.verdict.Refusal.TheVariants.{SessionClosed}
-use Rattle.session.specs.Views.{view_of}
 use Rattle.session.specs.Values.{stale_value}
 use Rattle.session.specs.Acts.{Inquires}
 use Rattle.session.specs.declared.state.Session.{Session}

@@ -10,6 +10,7 @@ use Rattle.events.specs.Answers.{event_of, completion_of, closing_of}
 use Rattle.events.specs.Plans.{Result}
 use Rattle.events.specs.declared.answer.Answer.{Answer}
 use Rattle.events.specs.declared.plan.Plan.{Plan}
+use Rattle.links.specs.declared.link.Standing.{Standing}
 use Rattle.session.specs.declared.state.Session.{Session}
 use Rattle.session.specs.declared.answer.Fed.{Fed}
 use Rattle.session.specs.declared.answer.Completed.{Completed}
@@ -21,6 +22,10 @@ parts_of s = Links.whole s.table s.link s.pending
 
 abbrev pub view_of : Session → Sess
 view_of s = Links.view_of_parts (parts_of s)
+
+-- What the plans of its acts start from.
+abbrev pub standing_of : Session → Standing
+standing_of s = record { link = s.link; pending = s.pending.count }
 
 -- What the view hides is as open has it.
 abbrev pub Tidy : Session → Type 0

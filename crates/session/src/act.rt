@@ -9,10 +9,9 @@ ghost use Rattle.model.specs.Acts.{plain, isochronous};
 ghost use Rattle.model.specs.Cut.{lent};
 ghost use Rattle.results.specs.declared.Results.{Results};
 ghost use Rattle.pending.specs.Pending.{list_of};
-ghost use Rattle.links.specs.Links.{phase_of};
 ghost use Rattle.feeding.specs.Asking.{look_asked};
 ghost use Rattle.settling.specs.Settling.{given_for};
-ghost use Rattle.session.specs.Views.{view_of, fresh_session, handed, answer_of};
+ghost use Rattle.session.specs.Views.{standing_of, view_of, fresh_session, handed, answer_of};
 ghost use Rattle.session.specs.Values.{request_fed, feed_value, plain_given, iso_given, complete_value, close_value, stale_value};
 ghost use Rattle.session.specs.Acts.{Opens, Feeds, Completes, Closes, Inquires};
 
@@ -72,22 +71,18 @@ fn answer_of(plan: Plan, length: usize) -> Answer
 fn look_asked(list: Pending, key: Option<Key>) -> Option<Look>
     ensures { result ≡ look_asked (list_of list) key }
 {
-    match key {
-        None => None,
-        Some(key) => list.look(key),
-    }
+    list.look(key?)
 }
 
 impl Session {
-    // The phase, as the acts take it.
-    fn phase(self) -> u8
-        ensures { result ≡ phase_of self.link self.pending.count }
+    // What the plans of its acts start from.
+    fn standing(self) -> Standing
+        ensures { result ≡ standing_of self }
     {
-        let now = Standing {
+        Standing {
             link: self.link,
             pending: self.pending.count,
-        };
-        now.phase()
+        }
     }
 
     // A session over a table: waiting, or closed over no devices if the table breaks a rule.
@@ -115,10 +110,7 @@ impl Session {
         ensures value { result ≡ request_fed self piece.now (length work.old) (length reply.old) }
     {
         let list = self.pending;
-        let now = Standing {
-            link: self.link,
-            pending: list.count,
-        };
+        let now = self.standing();
         let asked = plan_request(self.table, now, piece, work.len(), reply.len());
         let plan = asked.plan;
         let said = asked.reply;
@@ -152,10 +144,7 @@ impl Session {
         let list = self.pending;
         let asked = ask(link, piece);
         let look = look_asked(list, asked.key);
-        let now = Standing {
-            link: link,
-            pending: list.count,
-        };
+        let now = self.standing();
         let plan = plan_piece(now, asked, look, piece, work.len(), reply.len(), time);
         let next = plan.link;
         let change = plan.change;
@@ -180,10 +169,7 @@ impl Session {
         ensures value { result ≡ complete_value self given ticket (length payload.now) (length header.old) }
     {
         let list = self.pending;
-        let now = Standing {
-            link: self.link,
-            pending: list.count,
-        };
+        let now = self.standing();
         let look = list.look(Key::Ticket(ticket));
         let plan = plan_completion(now, look, given, payload.len(), header.len());
         let next = plan.link;
@@ -251,10 +237,7 @@ impl Session {
         ensures value { result ≡ close_value self }
     {
         let list = self.pending;
-        let plan = plan_close(Standing {
-            link: self.link,
-            pending: list.count,
-        });
+        let plan = plan_close(self.standing());
         let next = plan.link;
         let change = plan.change;
         let pending = list.changed(change);
@@ -277,7 +260,7 @@ impl Session {
         ensures value { result ≡ stale_value self time limit }
     {
         let list = self.pending;
-        if self.phase() == CLOSED {
+        if self.standing().phase() == CLOSED {
             return Inquired {
                 answer: Err(Refusal::SessionClosed),
                 stale: list.tickets(0),
@@ -309,7 +292,7 @@ impl Session {
     pub fn devid(self) -> u64
         ensures { result ≡ served_devid (view_of self) }
     {
-        if self.phase() == ATTACHED {
+        if self.standing().phase() == ATTACHED {
             return self.link.devid;
         }
         0

@@ -1,7 +1,7 @@
 -- A completion and a close of the code are those of the definitions.
 use Prim.Native.Nat.{ℕ, ◌+◌, ◌≤◌, ◌<◌}
 use native.Mathlib.Omega.{arith}
-use mathlib.Core.Path.{◌≡◌, refl, sym, ap, subst, ◌∙◌}
+use mathlib.Core.Path.{◌≡◌, refl, sym, ap, ◌∙◌}
 use mathlib.Core.Bool.{Bool, true, false, cond, ◌&&◌, true≢false}
 use mathlib.Core.List.{List}
 use mathlib.Core.Option.{Option, none, some}
@@ -19,8 +19,8 @@ use Rattle.exports.specs.declared.device.Table.{Table}
 use Rattle.transmit.specs.Part.{wire_length}
 use Rattle.pending.specs.Changes.{changed, removes, clears}
 use Rattle.pending.specs.Looks.{look_at}
-use Rattle.std.specs.Prelude.{Option as Maybe, Some, None, is_some}
-use Rattle.pending.specs.Pending.{ticket_of, no_urb, tickets, found, Place, At, Nothing, ticket_place, urb_at, list_of, Whole}
+use Rattle.std.specs.Prelude.{Option as Maybe, Some, None}
+use Rattle.pending.specs.Pending.{ticket_of, no_urb, tickets, Place, At, Nothing, ticket_place, urb_at, list_of, Whole}
 use Rattle.pending.specs.declared.list.Pending.{Pending}
 use Rattle.pending.specs.declared.look.Look.{Look}
 use Rattle.pending.specs.declared.urb.Urb.{Urb}

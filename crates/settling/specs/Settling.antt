@@ -1,6 +1,5 @@
 -- A completion and a close: the plan of each, and what it comes to.
 use Rattle.std.specs.Prelude.{ℕ, ◌≤◌, ◌≡◌, true, cond, Option as Maybe, Some, None, Ok, Err, is_some, List, [], eqb, length, take}
-use Rattle.wire.specs.Codes
 use Rattle.ground.specs.Writing.{over}
 use Rattle.messages.specs.Messages.{iso_count}
 use Rattle.messages.specs.declared.message.Transfer.{Transfer}

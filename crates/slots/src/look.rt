@@ -26,7 +26,8 @@ pub fn seqnum_wanted(key: Option<Key>) -> u32
     }
 }
 
-// A URB that was found at a place, or none. (A flag beside a place: both searches say them so, and an Option would be made for each call.)
+// A URB that was found at a place, or none. (A flag beside a place, as SeqnumSeen, TicketSeen and
+// KeySeen have it.)
 pub fn look_at(found: bool, place: usize, u: Urb) -> Option<Look>
     ensures { result ≡ seen_at found place u }
 {

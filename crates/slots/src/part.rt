@@ -1,12 +1,12 @@
 // A part of a slice: the first n from place `from` on, as many as there are. (`transmit::window` says the same of bytes: a
-// line each, in crates of which neither stands on the other.)
+// line each over `front`.)
 ghost use Rattle.std.specs.Prelude.{◌≡◌, take, drop};
 
-use pending::list::first;
+use ground::part::front;
 use pending::urb::Urb;
 
 pub fn part(urbs: &[Urb], from: usize, n: usize) -> &[Urb]
     ensures { result.now ≡ take n (drop from urbs.now) }
 {
-    first(&urbs[from.min(urbs.len())..], n)
+    front(&urbs[from.min(urbs.len())..], n)
 }

@@ -15,11 +15,7 @@ use pending::urb::Urb;
 pub fn get_at(urbs: &[Urb], place: usize) -> Urb
     ensures { result ≡ get_or urbs.now place blank }
 {
-    if place < urbs.len() {
-        urbs[place]
-    } else {
-        Urb::blank()
-    }
+    urbs.get(place).copied().unwrap_or(Urb::blank())
 }
 
 // The tickets of the first n from place from on go to the front of `out`, as many as it has room for; what stands behind them stays.

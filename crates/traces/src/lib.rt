@@ -72,7 +72,7 @@ pub fn trace_data(bytes: &[u8], out: &mut [u8]) -> usize
     put_hex(Text::begun(b"data"), bytes, out)
 }
 
-// The two fields of each packet.
+// The two fields of each packet. (The bound keeps them inside a text.)
 fn packets_text(packets: &[Packet]) -> Text
     requires { length packets.now ≤ MAX-PACKETS }
     ensures { TextHolds result (fields (ascii "packets") (packet_fields packets.now)) (WORD-LEN + length packets.now * (2 * FIELD-LEN)) }
@@ -108,7 +108,7 @@ pub fn trace_removed(removed: Option<u64>, out: &mut [u8]) -> usize
     line.put(out)
 }
 
-// The same of a completion of so many packets and the header buffer that it left.
+// The same of a completion of so many packets and the header buffer that it left. (The bound keeps a sum of sizes small.)
 pub fn trace_header(
     packets: usize,
     answer: Result<Returned, Refusal>,

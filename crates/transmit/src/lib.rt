@@ -5,14 +5,15 @@ ghost use Rattle.std.specs.Prelude.{◌≡◌, ◌+◌, ltb, take, drop};
 ghost use Rattle.wire.specs.Codes.{HEADER-LEN};
 ghost use Rattle.transmit.specs.Part.{behind, part_of, wire_length};
 
+use ground::part::front;
 use wire::codes::{DESCRIPTOR_LEN, DIR_IN, HEADER_LEN};
 
-// The bytes of `s` from `at` on, at most `most` of them. (No sum of the two, which could wrap.)
+// The bytes of `s` from `at` on, at most `most` of them. (No sum of the two, which could wrap. `slots` has the same of URBs: a line
+// each over `front`.)
 fn window(s: &[u8], at: usize, most: usize) -> &[u8]
     ensures { result.now ≡ take most (drop at s.now) }
 {
-    let rest = &s[at.min(s.len())..];
-    &rest[..most.min(rest.len())]
+    front(&s[at.min(s.len())..], most)
 }
 
 // A header buffer of `len` bytes has no room for the header and `p` descriptors behind it. (By a quotient, so that nothing wraps.)

@@ -2,7 +2,6 @@ use Rattle.ground.specs.Tests.{first, decide}
 use Rattle.verdicts.specs.Verdicts.{submit_tests}
 use Rattle.events.specs.Plans.{submitted_plan}
 use Rattle.verdicts.proofs.Deciding.{first_err, first_ok}
-use borrow.Author.Rules.{rules}
 use Rattle.model.specs.State.{submit_packets}
 use Rattle.model.specs.Judging.{bad_packets}
 use Rattle.events.proofs.Packets.{read-iso, read_verdict}

@@ -2,7 +2,6 @@ use Rattle.std.specs.Prelude.{is_some}
 use Rattle.ground.specs.Tests.{first, decide}
 use Rattle.verdicts.specs.Verdicts.{header_tests}
 use Rattle.verdicts.proofs.Deciding.{first_err, first_ok}
-use borrow.Author.Rules.{rules}
 use borrow.Author.Tests.{eq-eqb, ne_eqb}
 use Rattle.feeding.proofs.message.plan_header.Goals as goal
 

@@ -6,7 +6,6 @@ use Rattle.verdicts.specs.Verdicts.{feed_refusals}
 use Rattle.verdicts.proofs.Deciding.{first_err, first_ok}
 use Rattle.links.specs.Links.{phase_of}
 use Rattle.feeding.specs.Planning.{message_plan}
-use borrow.Author.Rules.{rules}
 use Rattle.feeding.proofs.message.plan_piece.Goals as goal
 
 pub returns-in-Err : goal.returns-in-Err

@@ -2,7 +2,6 @@ use Rattle.ground.specs.Tests.{first}
 use Rattle.verdicts.specs.Verdicts.{request_tests}
 use Rattle.verdicts.proofs.Deciding.{first_err, first_ok}
 use Rattle.feeding.proofs.Waiting.{head-breaks, head-lists, head_goes}
-use borrow.Author.Rules.{rules}
 use Rattle.feeding.proofs.request.plan_head.Goals as goal
 
 pub returns-then-request : goal.returns-then-request

@@ -7,7 +7,6 @@ use Rattle.verdicts.proofs.Deciding.{first_err, first_ok}
 use Rattle.links.specs.Links.{phase_of}
 use Rattle.feeding.proofs.Waiting.{waits}
 use Rattle.feeding.specs.Planning.{request_plan}
-use borrow.Author.Rules.{rules}
 use Rattle.feeding.proofs.request.plan_request.Goals as goal
 
 pub plan_waiting-requires : goal.plan_waiting-requires

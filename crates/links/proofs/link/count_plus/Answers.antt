@@ -3,7 +3,6 @@ use Rattle.links.specs.Links.{plus}
 use Rattle.limits.specs.Limits
 use borrow.Author.Tests.{le-leb, lt-leb}
 use native.Mathlib.Omega.{arith}
-use borrow.Author.Rules.{rules}
 use Rattle.links.proofs.link.count_plus.Goals as goal
 
 pub returns-then-count-more : goal.returns-then-count-more

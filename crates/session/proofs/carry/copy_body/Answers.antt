@@ -4,7 +4,6 @@ use lib.ListN.{length, take, drop, length-drop}
 use Prim.Native.Nat.{◌-◌}
 use native.Mathlib.Omega.{arith}
 use mathlib.Core.Path.{◌≡◌, refl}
-use borrow.Author.Rules.{rules}
 use Rattle.session.proofs.carry.copy_body.Goals as goal
 
 pub returns-then-from-to : goal.returns-then-from-to

@@ -5,7 +5,6 @@ use Rattle.replies.specs.Replies.{submit_reply}
 use Rattle.settling.specs.Settling.{told}
 use Rattle.ground.proofs.Parts.{wrote_all}
 use native.Mathlib.Omega.{arith}
-use borrow.Author.Rules.{rules}
 use Rattle.session.proofs.carry.write_header.Goals as goal
 
 pub returns-in-Some : goal.returns-in-Some

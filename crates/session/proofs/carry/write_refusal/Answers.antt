@@ -1,4 +1,3 @@
-use borrow.Author.Rules.{rules}
 use Rattle.messages.specs.Messages.{iso_count}
 use Rattle.descriptors.proofs.Laws.{refused_front}
 use Rattle.model.proofs.Packets.{iso-most}

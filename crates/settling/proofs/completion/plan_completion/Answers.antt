@@ -3,7 +3,6 @@ use Rattle.verdicts.specs.Verdicts.{completion_refusals}
 use Rattle.verdicts.proofs.Deciding.{first_err, first_ok}
 use Rattle.links.specs.Links.{phase_of}
 use Rattle.settling.specs.Settling.{judged_by, completion_plan}
-use borrow.Author.Rules.{rules}
 use Rattle.settling.proofs.completion.plan_completion.Goals as goal
 
 pub returns-in-Err : goal.returns-in-Err

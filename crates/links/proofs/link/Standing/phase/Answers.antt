@@ -1,6 +1,5 @@
 use Rattle.links.proofs.Fits.{odd_by_counts, odd_by_progress, phase_fit}
 use mathlib.Core.Bool.{true}
-use borrow.Author.Rules.{rules}
 use mathlib.Core.Path.{ap}
 use mathlib.Core.Bool.{not}
 use Rattle.links.proofs.link.Standing.phase.Goals as goal

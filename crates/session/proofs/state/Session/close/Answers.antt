@@ -14,6 +14,6 @@ returns c =
     let l = c.changed-pending.result in
     let t = c.tickets-dropped.result in
     record {
-      closes = closes_by s r l t whole counted c.plan_close-plan.ensures c.changed-pending.ensures c.tickets-dropped.ensures;
-      value = close-value s r l t c.plan_close-plan.ensures c.changed-pending.ensures c.tickets-dropped.ensures;
+      closes = closes_by s r l t whole counted (rw c.standing.ensures at c.plan_close-plan.ensures) c.changed-pending.ensures c.tickets-dropped.ensures;
+      value = close-value s r l t (rw c.standing.ensures at c.plan_close-plan.ensures) c.changed-pending.ensures c.tickets-dropped.ensures;
     }

@@ -32,7 +32,7 @@ write_planned-n-requires c =
     a.time = let a = c.args in
     message_planned a.self a.piece.now (lent a.work.now a.reply.now) a.time arrays c.ask-asked.result c.look_asked-look.result
     c.plan_piece-plan.result
-    c.if-link-eq-WAITING.false c.ask-asked.ensures c.look_asked-look.ensures c.plan_piece-plan.ensures in let k = composed in (k.inside, k.fits)
+    c.if-link-eq-WAITING.false c.ask-asked.ensures c.look_asked-look.ensures (rw c.standing-now.ensures at c.plan_piece-plan.ensures) in let k = composed in (k.inside, k.fits)
 
 pub returns : goal.returns
 returns c =
@@ -43,7 +43,7 @@ returns c =
     a.time = let a = c.args in
     message_planned a.self a.piece.now (lent a.work.now a.reply.now) a.time arrays c.ask-asked.result c.look_asked-look.result
     c.plan_piece-plan.result
-    c.if-link-eq-WAITING.false c.ask-asked.ensures c.look_asked-look.ensures c.plan_piece-plan.ensures in
+    c.if-link-eq-WAITING.false c.ask-asked.ensures c.look_asked-look.ensures (rw c.standing-now.ensures at c.plan_piece-plan.ensures) in
     let a = c.args in
     let r = c.plan_piece-plan.result in
     let b = lent a.work.now a.reply.now in
@@ -55,5 +55,5 @@ returns c =
       value = fed_by_lem a.self a.piece.now b _ a.time r bytes c.changed-pending.result c.tickets-dropped.result c.write_planned-n.result
           composed c.changed-pending.ensures c.tickets-dropped.ensures w.wrote w.reply_len_bound
           ∙ message-value a.self a.piece.now (length a.work.now) (length a.reply.now) a.time c.ask-asked.result c.look_asked-look.result r
-          c.if-link-eq-WAITING.false c.ask-asked.ensures c.look_asked-look.ensures c.plan_piece-plan.ensures;
+          c.if-link-eq-WAITING.false c.ask-asked.ensures c.look_asked-look.ensures (rw c.standing-now.ensures at c.plan_piece-plan.ensures);
     })

@@ -5,7 +5,7 @@ use Rattle.limits.specs.Limits.{MAX-DEVICES}
 use Rattle.ground.proofs.Lists.{unmapped}
 use Rattle.model.specs.Cut.{lent}
 use Rattle.events.specs.Plans.{request_bytes}
-use Rattle.feeding.specs.Feeding.{Arrays, Composed}
+use Rattle.feeding.specs.Feeding.{Arrays}
 use Rattle.session.proofs.Carrying.{request_planned, feeds_by, fed_by_lem, request-fed}
 use borrow.Author.Rules.{rules}
 use Rattle.session.proofs.state.Session.feed_request.Goals as goal
@@ -18,7 +18,7 @@ copy_body-requires c =
     let r = c.plan_request-asked.result in
     let b = lent a.work.now a.reply.now in
     let bytes = request_bytes a.self.table r.reply in
-    let composed = λ (time : ℕ). request_planned a.self a.piece.now b time arrays r devices c.requires c.plan_request-asked.ensures in
+    let composed = λ (time : ℕ). request_planned a.self a.piece.now b time arrays r devices c.requires (rw c.standing-now.ensures at c.plan_request-asked.ensures) in
     let k = composed 0 in
     (k.inside, k.fits)
 
@@ -30,7 +30,7 @@ returns c =
     let r = c.plan_request-asked.result in
     let b = lent a.work.now a.reply.now in
     let bytes = request_bytes a.self.table r.reply in
-    let composed = λ (time : ℕ). request_planned a.self a.piece.now b time arrays r devices c.requires c.plan_request-asked.ensures in
+    let composed = λ (time : ℕ). request_planned a.self a.piece.now b time arrays r devices c.requires (rw c.standing-now.ensures at c.plan_request-asked.ensures) in
     let l = c.changed-pending.result in
     let t = c.tickets-dropped.result in
     let n = c.write_request_reply-n.result in
@@ -40,5 +40,5 @@ returns c =
           c.tickets-dropped.ensures c.copy_body.ensures w.wrote w.reply_len_bound;
       value = fed_by_lem a.self a.piece.now b _ 0 r.plan bytes l t n (composed 0) c.changed-pending.ensures c.tickets-dropped.ensures
           w.wrote w.reply_len_bound
-          ∙ request-fed a.self a.piece.now (length a.work.now) (length a.reply.now) 0 r c.plan_request-asked.ensures;
+          ∙ request-fed a.self a.piece.now (length a.work.now) (length a.reply.now) 0 r (rw c.standing-now.ensures at c.plan_request-asked.ensures);
     })

@@ -1,5 +1,4 @@
 use Rattle.session.proofs.Opening.{open_good, open_bad, opens_as}
-use borrow.Author.Rules.{rules}
 use Rattle.session.proofs.state.Session.open.Goals as goal
 
 pub returns-then-is_good : goal.returns-then-is_good

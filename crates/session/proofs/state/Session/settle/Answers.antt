@@ -12,7 +12,7 @@ write_header-requires c =
     let counted : c.args.self.link.counts.accepted ≤ Limits.LAST-TICKET = search (unmapped, rules) in
     let a = c.args in
     (completion_planned a.self a.given a.ticket a.payload.now a.header.now c.look-look.result c.plan_completion-plan.result
-    whole c.requires counted c.look-look.ensures c.plan_completion-plan.ensures).fits
+    whole c.requires counted c.look-look.ensures (rw c.standing-now.ensures at c.plan_completion-plan.ensures)).fits
 
 pub returns : goal.returns
 returns c =
@@ -21,8 +21,8 @@ returns c =
     let a = c.args in
     record {
       completes = completes_by a.self a.given a.ticket a.payload.now a.header.now c.look-look.result c.plan_completion-plan.result
-          whole c.requires counted c.look-look.ensures c.plan_completion-plan.ensures _ c.changed-pending.result c.changed-pending.ensures
+          whole c.requires counted c.look-look.ensures (rw c.standing-now.ensures at c.plan_completion-plan.ensures) _ c.changed-pending.result c.changed-pending.ensures
           c.write_header.ensures;
       value = complete-value a.self a.given a.ticket a.payload.now a.header.now c.look-look.result c.plan_completion-plan.result
-          whole c.requires counted c.look-look.ensures c.plan_completion-plan.ensures c.changed-pending.result c.changed-pending.ensures;
+          whole c.requires counted c.look-look.ensures (rw c.standing-now.ensures at c.plan_completion-plan.ensures) c.changed-pending.result c.changed-pending.ensures;
     }

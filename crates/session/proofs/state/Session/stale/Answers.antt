@@ -5,7 +5,7 @@ use Rattle.session.proofs.state.Session.stale.Goals as goal
 pub returns-then-phase-eq-CLOSED : goal.returns-then-phase-eq-CLOSED
 returns-then-phase-eq-CLOSED c =
     let a = c.args in
-    let h = sym c.phase.ensures ∙ c.if-phase-eq-CLOSED.true in
+    let h = sym (rw c.standing.ensures at c.phase.ensures) ∙ c.if-phase-eq-CLOSED.true in
     let ts = c.tickets.result in
     record {
       inquires = inquires-closed a.self a.time a.limit ts h c.tickets.ensures;
@@ -18,6 +18,6 @@ returns c =
     let ts = c.stale_tickets.result in
     let e = c.stale_tickets.ensures in
     record {
-      inquires = inquires_open a.self a.time a.limit ts (λ z. c.if-phase-eq-CLOSED.false (c.phase.ensures ∙ z)) e;
-      value = stale_open a.self a.time a.limit ts (λ z. c.if-phase-eq-CLOSED.false (c.phase.ensures ∙ z)) e;
+      inquires = inquires_open a.self a.time a.limit ts (λ z. c.if-phase-eq-CLOSED.false ((rw c.standing.ensures at c.phase.ensures) ∙ z)) e;
+      value = stale_open a.self a.time a.limit ts (λ z. c.if-phase-eq-CLOSED.false ((rw c.standing.ensures at c.phase.ensures) ∙ z)) e;
     }
