@@ -9,7 +9,7 @@ use Rattle.pending.specs.declared.counts.Numbers.{Numbers}
 use Rattle.events.specs.declared.answer.Event.{Event}
 use Rattle.events.specs.declared.answer.Event.TheVariants.{Hungry, List as Listed, Import, Submit, Answer, Unlink, Break, Refused}
 use Rattle.events.specs.declared.answer.Returned.{Returned}
-use Rattle.verdicts.specs.Numbers.{refusal_number, fault_number}
+use Rattle.verdicts.specs.Numbers.{refusal_number}
 use Rattle.verdicts.specs.declared.verdict.Refusal.{Refusal}
 use Rattle.session.specs.declared.answer.Opened.{Opened}
 use Rattle.session.specs.declared.answer.Fed.{Fed}
@@ -82,8 +82,8 @@ flat_event (Import st) setup iso = event_row IMPORT 0 st 0 0 0 0 no_transfer set
 flat_event (Submit t a u) setup iso = event_row SUBMIT 0 0 0 0 0 t u setup a iso
 flat_event (Answer q st) setup iso = event_row ANSWER 0 st q 0 0 0 no_transfer setup 0 iso
 flat_event (Unlink q st r) setup iso = event_row UNLINK 0 st q 0 (removed_ticket r) 0 no_transfer setup 0 iso
-flat_event (Break f) setup iso = event_row BREAK (fault_number f.kind) 0 0 f.at 0 0 no_transfer setup 0 iso
-flat_event (Refused r) setup iso = event_row REFUSED (refusal_number r) 0 0 0 0 0 no_transfer setup 0 iso
+flat_event (Break f) setup iso = event_row BREAK f.number 0 0 f.at 0 0 no_transfer setup 0 iso
+flat_event (Refused n) setup iso = event_row REFUSED n 0 0 0 0 0 no_transfer setup 0 iso
 
 -- ## What the acts hand back: 0, or a refusal's number
 

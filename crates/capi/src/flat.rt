@@ -172,13 +172,13 @@ pub(crate) fn flat_event(
         }
         Event::Break(fault) => FlatEvent {
             kind: BREAK,
-            number: u32::from(fault.kind),
+            number: fault.number,
             at: fault.at,
             ..none
         },
-        Event::Refused(refusal) => FlatEvent {
+        Event::Refused(number) => FlatEvent {
             kind: REFUSED,
-            number: u32::from(refusal),
+            number: number,
             ..none
         },
     }

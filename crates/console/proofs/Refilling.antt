@@ -16,12 +16,12 @@ use Rattle.tape.proofs.Wanted.{enough, wanted_room}
 use Rattle.console.specs.Windows.{window_of, Inside, Refilled}
 use Rattle.console.specs.declared.input.Window.{Window}
 
--- the window, copied to the front
-pub copied : (buffer : List ℕ) (at end : ℕ) → at ≤ end → end ≤ length buffer
-    → take (end - at) (copy_within buffer at end 0) ≡ take (end - at) (drop at buffer)
-copied buffer at end h k =
+-- the window, copied to the front, however its place is written
+pub copied : (buffer : List ℕ) (from at end : ℕ) → from ≡ at → at ≤ end → end ≤ length buffer
+    → take (end - at) (copy_within buffer from end 0) ≡ take (end - at) (drop at buffer)
+copied buffer from at end e h k =
     let n = end - at in
-    take_at (take n (drop at buffer)) (drop (0 + n) buffer) n (length-take-le n (drop at buffer) (simp length-drop (omega arith)))
+    rw e (take_at (take n (drop at buffer)) (drop (0 + n) buffer) n (length-take-le n (drop at buffer) (simp length-drop (omega arith))))
 
 -- nothing was read
 pub as_it_was : (w : Window) (buffer : List ℕ) → Inside w buffer → (w.over ≡ true) ⊎ ReadsAlike (window_of w buffer) → Refilled w w buffer buffer

@@ -31,7 +31,7 @@ event_of (Submit t a u) setup iso ts = done (submit (record { ticket = t; transf
 event_of (Answered q st) setup iso ts = done (answer q st)
 event_of (Unlink q st r) setup iso ts = done (unlink q st (removed_of r))
 event_of (Break f) setup iso ts = done (break f (take ts.count ts.tickets))
-event_of (Refused r) setup iso ts = refused (refusal_number r)
+event_of (Refused n) setup iso ts = refused n
 
 abbrev pub completion_of : Result Handed Refusal → Outcome Returned
 completion_of (Ok r) = done (record { wire = r.length; status = r.status })
@@ -41,6 +41,15 @@ completion_of (Err r) = refused (refusal_number r)
 abbrev pub closing_of : Result ⊤ Refusal → Tickets → Outcome (List ℕ)
 closing_of (Ok u) ts = done (take ts.count ts.tickets)
 closing_of (Err r) ts = refused (refusal_number r)
+
+-- The same of answers whose refusal is a number.
+abbrev pub completion_by : Result Handed ℕ → Outcome Returned
+completion_by (Ok r) = done (record { wire = r.length; status = r.status })
+completion_by (Err n) = refused n
+
+abbrev pub closing_by : Result ⊤ ℕ → Tickets → Outcome (List ℕ)
+closing_by (Ok u) ts = done (take ts.count ts.tickets)
+closing_by (Err n) ts = refused n
 
 abbrev pub inquiry_of : Result ⊤ Refusal → Tickets → Outcome (List ℕ)
 inquiry_of = closing_of

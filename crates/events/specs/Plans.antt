@@ -26,7 +26,6 @@ use Rattle.limits.specs.Limits
 use Rattle.ground.specs.Tests.{first, decide}
 use Rattle.verdicts.specs.Verdicts.{submit_tests}
 use Rattle.verdicts.specs.declared.verdict.Fault.{Fault}
-use Rattle.verdicts.specs.declared.verdict.Refusal.{Refusal}
 use Rattle.model.specs.State.{Sess, submit_packets}
 use Rattle.model.specs.Answers.{Outcome, Event}
 use Rattle.model.specs.Judging.{record_of, bad_packets}
@@ -82,8 +81,8 @@ with_body body from to r =
     }
 
 -- k: the link before; n: how many are pending; h: the header of the message; iso: its packets, as the array has them.
-abbrev pub refused_plan : Link → ℕ → Refusal → Plan
-refused_plan k n refusal = plain k (keeps n) (Refused refusal) 0 None
+abbrev pub refused_plan : Link → ℕ → ℕ → Plan
+refused_plan k n number = plain k (keeps n) (Refused number) 0 None
 
 abbrev pub hungry_plan : Link → ℕ → Progress → ℕ → Plan
 hungry_plan k n p consumed = plain (link_with_progress p k) (keeps n) Hungry consumed None

@@ -4,13 +4,13 @@
 use limits::MAX_PACKETS;
 use messages::message::Transfer;
 use packets::packet::Packet;
-use verdicts::verdict::{Fault, Refusal};
+use verdicts::verdict::Fault;
 use wire::codes::SETUP_LEN;
 
 // Hungry is the rules' word for a feed that ends within a message. An import has its status, the 0 or 1 of its reply on the wire; an
 // accepted submit its ticket, its arrival and its transfer (the setup bytes and the packets stand beside); an answer to a refused submit
 // its seqnum and status; an unlink its own seqnum, its status and the ticket removed, if it did. A break is the rules' word for a fault in
-// the stream, which ends the session.
+// the stream, which ends the session. A refusal has its number.
 #[derive(Clone, Copy)]
 pub enum Event {
     Hungry,
@@ -20,7 +20,7 @@ pub enum Event {
     Answer(u32, u32),
     Unlink(u32, u32, Option<u64>),
     Break(Fault),
-    Refused(Refusal),
+    Refused(u32),
 }
 
 // A feed's answer: the event, the bytes consumed of the piece, the length of the reply; an accepted submit's setup bytes and packets.

@@ -8,7 +8,6 @@ use links::link::{Link, Standing};
 use messages::reply::{RetSubmit, RetUnlink};
 use packets::packet::{Packet, no_packets};
 use pending::change::Change;
-use verdicts::verdict::Refusal;
 
 // A reply to a message: a RET_SUBMIT, a RET_UNLINK.
 #[derive(Clone, Copy)]
@@ -70,10 +69,10 @@ pub(crate) fn plain_plan(
     }
 }
 
-// The feed is refused, and nothing changes.
-pub fn plan_refused(now: Standing, refusal: Refusal) -> Plan
-    ensures { result ≡ refused_plan now.link now.pending refusal }
+// The feed is refused, with that number, and nothing changes.
+pub fn plan_refused(now: Standing, number: u32) -> Plan
+    ensures { result ≡ refused_plan now.link now.pending number }
 {
     let change = Change::keep(now.pending);
-    plain_plan(now.link, change, Event::Refused(refusal), 0, None)
+    plain_plan(now.link, change, Event::Refused(number), 0, None)
 }

@@ -56,7 +56,7 @@ fn feed(
     match answer.event {
         Event::Submit(ticket, _, _) => say(rt, "the device starts ticket ", ticket)?,
         Event::Unlink(_, _, Some(ticket)) => say(rt, "the device cancels ticket ", ticket)?,
-        Event::Break(fault) => say(rt, "the session broke with ", u32::from(fault.kind) as u64)?,
+        Event::Break(fault) => say(rt, "the session broke with ", fault.number as u64)?,
         _ => (),
     }
     Ok(fed.session)

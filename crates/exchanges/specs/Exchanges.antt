@@ -11,7 +11,6 @@ use Rattle.pending.specs.declared.counts.Numbers.{Numbers}
 use Rattle.pending.specs.declared.urb.Urb.{Urb}
 use Rattle.limits.specs.Limits
 use Rattle.verdicts.specs.Verdicts.{fault}
-use Rattle.verdicts.specs.declared.verdict.FaultKind.TheVariants.{BadLength}
 use Rattle.model.specs.State.{closed, numbers_of}
 use Rattle.model.specs.Answers.{Outcome, done, Event, list, import, submit, answer, unlink, break}
 use Rattle.model.specs.Acts.{Buffers, feed_of, plain}
@@ -190,7 +189,7 @@ exchanges =
       table = tape_table;
       before = attached ∷ fed (intr_in 0xd05 0x0001000f 1 64) ∷ [];
       last = intr_in 0xd06 0x0001000f 1 16385;
-      seen = record { event = done (break (fault BadLength 24) (1 ∷ [])); bytes = reply []; closed = true; numbers = counts 1 0 0 0 1 };
+      seen = record { event = done (break (fault 14 24) (1 ∷ [])); bytes = reply []; closed = true; numbers = counts 1 0 0 0 1 };
     }
     -- the highest endpoint, and one more
     ∷ record {

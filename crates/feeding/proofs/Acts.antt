@@ -89,7 +89,7 @@ module _ (t : Table) (k : Link) (l : Pending) (piece : List ℕ) (b : Buffers) (
   kept = keep_is l arrays.2
 
   -- a refusal says nothing, and leaves all as it was
-  composed_refused : (r : Refusal) → first tests ≡ some r → Composed (refused_plan k l.count r) [] t k l piece b time
+  composed_refused : (r : Refusal) → first tests ≡ some r → Composed (refused_plan k l.count (refusal_number r)) [] t k l piece b time
   unfolding decide
   composed_refused r f =
       record {
@@ -115,7 +115,7 @@ module _ (t : Table) (k : Link) (l : Pending) (piece : List ℕ) (b : Buffers) (
     lives = live s (sym e ∙ room.0)
 
     -- what is said of bytes isn't a refusal
-    never : (bytes : List ℕ) (r : Plan) (n : Refusal) → Feeds bytes r t k l 0 k.progress piece time → r.event ≡ Refused n → ⊥
+    never : (bytes : List ℕ) (r : Plan) (n : ℕ) → Feeds bytes r t k l 0 k.progress piece time → r.event ≡ Refused n → ⊥
     unfolding fed_from
     never bytes r n y z =
         let u = r.change.urb in

@@ -3,9 +3,8 @@ use Rattle.std.specs.Prelude.{ℕ, ◌+◌, ◌-◌, true, false, cond, Option, 
 use Rattle.wire.specs.Codes
 use Rattle.messages.specs.Messages.{header_of, unlink_seqnum}
 use Rattle.messages.specs.declared.message.Header.{Header}
-use Rattle.pending.specs.Looks.{look_for}
-use Rattle.pending.specs.declared.urb.Urb.{Urb}
-use Rattle.pending.specs.declared.look.Look.{Look}
+-- What is asked for, if anything, is looked up among the pending URBs.
+pub use Rattle.pending.specs.Looks.{look_asked}
 use Rattle.pending.specs.declared.look.Key.{Key}
 use Rattle.pending.specs.declared.look.Key.TheVariants.{Seqnum}
 use Rattle.links.specs.Links.{no_descriptors, bodied}
@@ -43,8 +42,3 @@ ask_of k piece =
     cond (leb Codes.HEADER-LEN p.filled) (record { progress = p; consumed = 0; read = false; key = None })
     (cond (ltb (length piece) need) (record { progress = grown p piece; consumed = length piece; read = false; key = None })
     (record { progress = q; consumed = need; read = true; key = key_for q.header }))
-
--- What is asked for, if anything, is looked up among the pending URBs.
-abbrev pub look_asked : List Urb → Option Key → Option Look
-look_asked us None = None
-look_asked us (Some key) = look_for us key

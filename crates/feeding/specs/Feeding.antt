@@ -6,7 +6,6 @@ use Rattle.pending.specs.Changes.{keeps}
 use Rattle.pending.specs.Pending.{Whole, list_of}
 use Rattle.pending.specs.declared.list.Pending.{Pending}
 use Rattle.limits.specs.Limits
-use Rattle.verdicts.specs.declared.verdict.Refusal.{Refusal}
 use Rattle.model.specs.State.{Sess}
 use Rattle.model.specs.Acts.{Buffers, feed_of}
 use Rattle.model.specs.Cut.{Feeding, written}
@@ -44,7 +43,7 @@ pub record Composed (r : Plan) (bytes : List ℕ) (t : Table) (k : Link) (l : Pe
   pub fits : r.body + (r.to - r.from) ≤ length b.work
   pub takes : length bytes ≤ Limits.REPLY-LEN → length bytes ≤ length b.reply
   pub fed : carried_with bytes t l r piece b ≡ fed_of (view_of_parts (whole t k l)) b piece time
-  pub same : (refusal : Refusal) → r.event ≡ Refused refusal → (r.link ≡ k) × (r.change ≡ keeps l.count)
+  pub same : (number : ℕ) → r.event ≡ Refused number → (r.link ≡ k) × (r.change ≡ keeps l.count)
   pub tidy : TidyParts (whole t k l) → TidyParts (parts_after t l r)
 
 -- As their types have it: the arrays have their lengths, and the count of accepted URBs is a number of 64 bits.

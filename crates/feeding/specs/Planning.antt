@@ -8,6 +8,7 @@ use Rattle.std.specs.Prelude.{Option as Maybe, Some, None}
 use Rattle.pending.specs.declared.look.Look.{Look}
 use Rattle.limits.specs.Limits
 use Rattle.ground.specs.Tests.{first, decide}
+use Rattle.verdicts.specs.Numbers.{refusal_number}
 use Rattle.verdicts.specs.Verdicts.{feed_refusals, request_tests, header_tests}
 use Rattle.links.specs.Links.{phase_of}
 use Rattle.links.specs.declared.link.Link.{Link}
@@ -62,7 +63,7 @@ attached_plan k n a look piece time =
 
 unfoldable pub message_plan : Link → ℕ → Asked → Maybe Look → (piece : List ℕ) → (work reply time : ℕ) → Plan
 message_plan k n a look piece work reply time =
-    decide (first (feed_refusals (not (eqb (phase_of k n) Limits.ATTACHED)) work reply)) (refused_plan k n) (attached_plan k n a look piece time)
+    decide (first (feed_refusals (not (eqb (phase_of k n) Limits.ATTACHED)) work reply)) (λ r. refused_plan k n (refusal_number r)) (attached_plan k n a look piece time)
 
 -- ## A request
 
@@ -93,4 +94,4 @@ waiting_plan t k n piece = cond (ltb k.progress.filled Codes.OP-LEN) (head_plan 
 
 unfoldable pub request_plan : Table → Link → ℕ → (piece : List ℕ) → (work reply : ℕ) → RequestPlan
 request_plan t k n piece work reply =
-    decide (first (feed_refusals (not (eqb (phase_of k n) Limits.WAITING)) work reply)) (λ r. silent_plan (refused_plan k n r)) (waiting_plan t k n piece)
+    decide (first (feed_refusals (not (eqb (phase_of k n) Limits.WAITING)) work reply)) (λ r. silent_plan (refused_plan k n (refusal_number r))) (waiting_plan t k n piece)

@@ -139,7 +139,7 @@ pub fn plan_piece(
 {
     let closed = now.phase() != ATTACHED;
     match feed_refusal(closed, work, reply) {
-        Err(refusal) => plan_refused(now, refusal),
+        Err(refusal) => plan_refused(now, u32::from(refusal)),
         Ok(()) => plan_attached(now, asked, look, piece, time),
     }
 }

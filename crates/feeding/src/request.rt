@@ -92,7 +92,7 @@ pub fn plan_request(
 {
     let closed = now.phase() != WAITING;
     match feed_refusal(closed, work, reply) {
-        Err(refusal) => plan_silent(plan_refused(now, refusal)),
+        Err(refusal) => plan_silent(plan_refused(now, u32::from(refusal))),
         Ok(()) => plan_waiting(table, now, piece),
     }
 }

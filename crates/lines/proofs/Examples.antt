@@ -8,7 +8,6 @@ use Rattle.wire.specs.Status.{minus}
 use Rattle.packets.specs.Packets.{in_array}
 use Rattle.pending.specs.declared.urb.Urb.{Urb}
 use Rattle.verdicts.specs.Verdicts.{fault}
-use Rattle.verdicts.specs.declared.verdict.FaultKind.TheVariants.{BadCommand}
 use Rattle.model.specs.Answers.{refused, done, hungry, list, import, submit, answer, unlink, break}
 use Rattle.numerals.specs.Digits
 use Rattle.numerals.specs.Digits.{ascii}
@@ -40,7 +39,7 @@ pub other_lines :
     ++ feed_lines (done list)
     ++ feed_lines (done (answer 3334 (minus Codes.ENODEV)))
     ++ feed_lines (done (unlink 3335 (minus Codes.ECONNRESET) (some 1)))
-    ++ feed_lines (done (break (fault BadCommand 0) (2 ∷ 10 ∷ [])))
+    ++ feed_lines (done (break (fault 12 0) (2 ∷ 10 ∷ [])))
     ++ completion_lines 2 63 (done (record { wire = 111; status = minus Codes.EREMOTEIO }))
     ++ completion_lines 1 64 (refused 3)
     ++ close_lines (done (4 ∷ []))

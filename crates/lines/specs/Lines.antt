@@ -4,7 +4,6 @@ use Rattle.ground.specs.Lists.{joined}
 use Rattle.pending.specs.Pending.{ticket_of, seqnum_of}
 use Rattle.pending.specs.declared.counts.Numbers.{Numbers}
 use Rattle.model.specs.Answers.{Outcome, refused, done, Returned, Event, hungry, list, import, submit, answer, unlink, break}
-use Rattle.verdicts.specs.Numbers.{fault_number}
 use Rattle.numerals.specs.Digits.{ascii, decimal, status_text}
 use Rattle.numerals.specs.Texts.{line}
 
@@ -25,7 +24,7 @@ event_lines (import status) = line "import" (decimal status ∷ [])
 event_lines (submit u) = line "submit" (decimal (ticket_of u) ∷ decimal (seqnum_of u) ∷ [])
 event_lines (answer seqnum status) = line "answer" (decimal seqnum ∷ status_text status ∷ [])
 event_lines (unlink seqnum status removed) = line "unlink" (decimal seqnum ∷ status_text status ∷ [])
-event_lines (break fault tickets) = line "broken" (decimal (fault_number fault.kind) ∷ ascii "at" ∷ decimal fault.at ∷ []) ++ joined dropped_line tickets
+event_lines (break fault tickets) = line "broken" (decimal fault.number ∷ ascii "at" ∷ decimal fault.at ∷ []) ++ joined dropped_line tickets
 
 abbrev pub feed_lines : Outcome Event → List ℕ
 feed_lines o = outcome_lines event_lines o

@@ -3,8 +3,7 @@ ghost use Rattle.std.specs.Prelude.{◌≡◌, ℕ, ◌≤◌, List, [], ◌∷�
 ghost use Rattle.ground.specs.Lists.{joined};
 ghost use Rattle.ground.specs.Writing.{Wrote};
 ghost use Rattle.packets.specs.declared.packet.Packet.{Packet};
-ghost use Rattle.events.specs.Answers.{event_of, completion_of, closing_of};
-ghost use Rattle.verdicts.specs.Numbers.{refusal_number, fault_number};
+ghost use Rattle.events.specs.Answers.{event_of, completion_by, closing_by};
 ghost use Rattle.numerals.specs.Digits.{ascii, decimal, status_text};
 ghost use Rattle.numerals.specs.Texts.{TEXT-LEN, LINE-LEN, DROPPED-LEN, line, text_of, TextHolds, HasRoom, Adds};
 ghost use Rattle.lines.specs.Lines.{dropped_line, feed_lines, completion_lines, close_lines, end_line, bad_tape_line};
@@ -15,7 +14,7 @@ use limits::MAX_PENDING;
 use numerals::text::Text;
 use pending::counts::Numbers;
 use pending::list::Tickets;
-use verdicts::verdict::{Fault, Refusal};
+use verdicts::verdict::Fault;
 
 // One more line, of a ticket that was dropped.
 fn with_drop(text: Text, ticket: u64) -> Text
@@ -38,12 +37,11 @@ fn with_dropped(line: Text, dropped: Tickets) -> Text
     text
 }
 
-fn refused_line(refusal: Refusal) -> Text
-    ensures { TextHolds result (line "refused" (decimal (refusal_number refusal) ∷ [])) LINE-LEN }
+// A refusal, by its number: any number is taken.
+fn refused_line(number: u32) -> Text
+    ensures { TextHolds result (line "refused" (decimal number ∷ [])) LINE-LEN }
 {
-    Text::begun(b"refused")
-        .number(u32::from(refusal) as u64)
-        .ended()
+    Text::begun(b"refused").number(number as u64).ended()
 }
 
 fn return_line(ticket: u64, status: u32, actual: u32) -> Text
@@ -58,10 +56,10 @@ fn return_line(ticket: u64, status: u32, actual: u32) -> Text
 
 // A fault, by its number and its place.
 fn broken_line(fault: Fault) -> Text
-    ensures { TextHolds result (line "broken" (decimal (fault_number fault.kind) ∷ ascii "at" ∷ decimal fault.at ∷ [])) LINE-LEN }
+    ensures { TextHolds result (line "broken" (decimal fault.number ∷ ascii "at" ∷ decimal fault.at ∷ [])) LINE-LEN }
 {
     Text::begun(b"broken")
-        .number(u32::from(fault.kind) as u64)
+        .number(fault.number as u64)
         .added(b" at")
         .number(fault.at as u64)
         .ended()
@@ -87,7 +85,7 @@ fn event_text(event: Event, dropped: Tickets) -> Text
             .status(status)
             .ended(),
         Event::Break(fault) => with_dropped(broken_line(fault), dropped),
-        Event::Refused(refusal) => refused_line(refusal),
+        Event::Refused(number) => refused_line(number),
     }
 }
 
@@ -98,29 +96,30 @@ pub fn feed_lines(a: Answer, dropped: Tickets, out: &mut [u8]) -> usize
     event_text(a.event, dropped).put(out)
 }
 
-// The same of a completion, with the ticket and the actual length that were handed over.
+// The same of a completion, with the ticket and the actual length that were handed over. (An answer by its number, `by_number` of what
+// the session says.)
 pub fn complete_line(
     ticket: u64,
     actual: u32,
-    answer: Result<Returned, Refusal>,
+    answer: Result<Returned, u32>,
     out: &mut [u8],
 ) -> usize
-    ensures { Wrote (completion_lines ticket actual (completion_of answer)) out.old out.new result }
+    ensures { Wrote (completion_lines ticket actual (completion_by answer)) out.old out.new result }
 {
     let line = match answer {
         Ok(returned) => return_line(ticket, returned.status, actual),
-        Err(refusal) => refused_line(refusal),
+        Err(number) => refused_line(number),
     };
     line.put(out)
 }
 
 // The same of a closing.
-pub fn close_lines(answer: Result<(), Refusal>, dropped: Tickets, out: &mut [u8]) -> usize
-    ensures { Wrote (close_lines (closing_of answer dropped)) out.old out.new result }
+pub fn close_lines(answer: Result<(), u32>, dropped: Tickets, out: &mut [u8]) -> usize
+    ensures { Wrote (close_lines (closing_by answer dropped)) out.old out.new result }
 {
     let lines = match answer {
         Ok(()) => with_dropped(Text::begun(b"closed").ended(), dropped),
-        Err(refusal) => refused_line(refusal),
+        Err(number) => refused_line(number),
     };
     lines.put(out)
 }

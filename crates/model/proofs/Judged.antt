@@ -19,9 +19,6 @@ use Rattle.messages.proofs.Padding.{dirty_place}
 use Rattle.exports.specs.declared.device.Table.{Table}
 use Rattle.lookup.specs.Lookup.{find_in}
 use Rattle.std.specs.Prelude.{Option as Maybe, Some, None}
-use Rattle.verdicts.specs.Numbers.{fault_number}
-use Rattle.verdicts.specs.declared.verdict.FaultKind.{FaultKind}
-use Rattle.verdicts.specs.declared.verdict.FaultKind.TheVariants.{BadCommand, BadDirection, BadLength, BadPackets, SeqnumPending, DirtyPadding, BadDevid}
 use Rattle.lookup.proofs.First.{find_first}
 use Rattle.pending.specs.Pending.{ticket_of, seqnum_of, find_by}
 use Rattle.pending.specs.declared.urb.Urb.{Urb}
@@ -196,22 +193,22 @@ free b h devid y c =
 placed : (devid : ℕ) (is : List Item) (h : List ℕ) (f : Fault) → Gives (header_rows_by devid is h) f → Placed h f
 placed devid is h f g =
     given_has (Placed h) (header_rows_by devid is h) f (
-      (λ _. other BadCommand refl),
+      (λ _. other Limits.BAD-COMMAND refl),
       (
-        (λ _. other BadDirection refl),
+        (λ _. other Limits.BAD-DIRECTION refl),
         (
-          (λ _. other BadLength refl),
+          (λ _. other Limits.BAD-LENGTH refl),
           (
-            (λ _. other BadPackets refl),
-            ((λ _. other SeqnumPending refl), ((λ w _. dirty_place h w.1), ((λ _. other BadDevid refl), tt))),
+            (λ _. other Limits.BAD-PACKETS refl),
+            ((λ _. other Limits.SEQNUM-PENDING refl), ((λ w _. dirty_place h w.1), ((λ _. other Limits.BAD-DEVID refl), tt))),
           ),
         ),
       ),
     )
     g
   where
-    other : {A : Type 0} (k : FaultKind) → eqb (fault_number k) Limits.DIRTY-PADDING ≡ false → k ≡ DirtyPadding → A
-    other k d e = absurd (eqb-false (fault_number k) Limits.DIRTY-PADDING d (ap fault_number e))
+    other : {A : Type 0} (n : ℕ) → eqb n Limits.DIRTY-PADDING ≡ false → n ≡ Limits.DIRTY-PADDING → A
+    other n d e = absurd (eqb-false n Limits.DIRTY-PADDING d e)
 
 -- whatever device is attached
 any_devid : (is : List Item) (h : List ℕ) (d e : ℕ) → (header_of h).command ≡ Codes.CMD-SUBMIT → Clear (header_rows_by d is h) → Clear (header_rows_by e is h)

@@ -30,7 +30,6 @@ use Rattle.verdicts.specs.Verdicts
 use Rattle.verdicts.specs.Verdicts.{Not, ShortRead}
 use Rattle.verdicts.specs.declared.verdict.Completing.{Completing}
 use Rattle.verdicts.specs.declared.verdict.Fault.{Fault}
-use Rattle.verdicts.specs.declared.verdict.FaultKind.TheVariants.{DirtyPadding}
 use Rattle.model.specs.State.{partly, headed, Sess, closed, numbers_of, End, returned, unlinked, dropped}
 use Rattle.model.specs.Answers.{Outcome, refused, done, Returned, Event, hungry, list, import, submit, answer, unlink, break, is_hungry}
 use Rattle.model.specs.Judging.{urb_of}
@@ -181,7 +180,7 @@ Removes is q st (some t) = (st ≡ minus Codes.ECONNRESET) × ((u : Urb) × Pend
 
 -- A row names the offset of the field that it speaks of; that of 17 names the first byte of an unlink's padding that isn't 0.
 abbrev pub Placed : List ℕ → Fault → Type 0
-Placed h f = f.kind ≡ DirtyPadding → FirstDirty h f.at
+Placed h f = f.number ≡ Limits.DIRTY-PADDING → FirstDirty h f.at
 
 -- A message, with the devid of the device that is attached, in a feed that was given a time.
 abbrev pub RightMessage : (devid time : ℕ) → List Item → List ℕ → Event → Type 0

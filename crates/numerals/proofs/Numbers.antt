@@ -21,9 +21,9 @@ use Rattle.numerals.proofs.Digits.{numeral-one, numeral-more}
 glyph_is : (d : ℕ) → d < 10 → Digits.glyph d ≡ 48 + d
 glyph_is d h = rw (lt-ltb d 10 h)
 
-pub decimal_is : (n : ℕ) → n < 2 ^ 64 → Fmt.decimal n ≡ Digits.decimal n
+pub decimal_is : (n : ℕ) → n < 2 ^ 64 → Fmt.decimal n ≡ Digits.numeral Digits.BASE n
 decimal_is n h =
-    decimal_by_steps (λ m ds. ds ≡ Digits.decimal m)
+    decimal_by_steps (λ m ds. ds ≡ Digits.numeral Digits.BASE m)
     (λ m l. rw (numeral-one 10 (omega arith) m l, glyph_is m l))
     (λ m ds l e. rw (e, numeral-more 10 (omega arith) m l, glyph_is (m % 10) (omega arith)))
     n h

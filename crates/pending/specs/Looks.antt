@@ -30,3 +30,8 @@ place_for us (Ticket t) = ticket_place t us
 
 abbrev pub look_for : List Urb → Key → Option Look
 look_for us key = look_at us (place_for us key)
+
+-- Nothing is found where nothing is looked up.
+abbrev pub look_asked : List Urb → Option Key → Option Look
+look_asked us None = None
+look_asked us (Some key) = look_for us key

@@ -2,7 +2,7 @@
 ghost use Rattle.std.specs.Prelude.{◌≡◌, ◌==◌, ◌<◌, length, position, IfSome};
 ghost use Rattle.halving.specs.Halving.{halved};
 ghost use Rattle.pending.specs.Pending.{seqnum_of, tickets, ticket_place, list_of};
-ghost use Rattle.pending.specs.Looks.{seen, place_option, place_for, look_for};
+ghost use Rattle.pending.specs.Looks.{seen, place_option, place_for, look_asked};
 
 use crate::list::Pending;
 use crate::urb::Urb;
@@ -87,11 +87,12 @@ fn place_of(urbs: &[Urb], key: Key) -> Option<usize>
 }
 
 impl Pending {
-    // The one that has the key.
+    // The one that has the key; where nothing is looked up, none.
     #[tactic(auto, using(crate::proofs::Finding::look_unplaced, crate::proofs::Finding::look_placed))]
-    pub fn look(self, key: Key) -> Option<Look>
-        ensures { result ≡ look_for (list_of self) key }
+    pub fn look(self, key: Option<Key>) -> Option<Look>
+        ensures { result ≡ look_asked (list_of self) key }
     {
+        let key = key?;
         let urbs = self.as_slice();
         let place = place_of(urbs, key)?;
         Some(Look::at(place, &urbs[place]))

@@ -19,6 +19,7 @@ use session::state::Session;
 use tape::iso::{iso_results, iso_total};
 use tape::reader::{Record, stream_bytes};
 use tape::table::device_data;
+use verdicts::verdict::by_number;
 
 // The next session, and how many bytes of lines were put.
 #[derive(Clone, Copy)]
@@ -41,7 +42,8 @@ fn play_completion(
     let data = device_data();
     let mut header = [0u8; HEADER_ROOM];
     let done = session.complete(ticket, status, actual, &data, &mut header);
-    let len = put_completion(traced, 0, ticket, actual, done.answer, &header, out);
+    let answer = by_number(done.answer);
+    let len = put_completion(traced, 0, ticket, actual, answer, &header, out);
     Played {
         session: done.session,
         len,
@@ -67,15 +69,8 @@ fn play_iso(
     let total = iso_total(results);
     let mut header = [0u8; HEADER_ROOM];
     let done = session.complete_iso(ticket, status, total, results, &data, &mut header);
-    let len = put_completion(
-        traced,
-        results.count,
-        ticket,
-        total,
-        done.answer,
-        &header,
-        out,
-    );
+    let answer = by_number(done.answer);
+    let len = put_completion(traced, results.count, ticket, total, answer, &header, out);
     Played {
         session: done.session,
         len,
@@ -83,13 +78,15 @@ fn play_iso(
 }
 
 // The session is closed.
+#[tactic(auto, using(crate::proofs::Acts::close_by_number))]
 fn play_close(session: Session, out: &mut [u8]) -> Played
     ensures { (b : Buffers) → Plays result (play_close (view_of session) b) b out.old out.new }
 {
     let closed = session.close();
+    let answer = by_number(closed.answer);
     Played {
         session: closed.session,
-        len: close_lines(closed.answer, closed.dropped, out),
+        len: close_lines(answer, closed.dropped, out),
     }
 }
 

@@ -3,7 +3,7 @@ ghost use Rattle.std.specs.Prelude.{ℕ, ◌≤◌, ◌≡◌, List, take};
 ghost use Rattle.limits.specs.Limits.{MAX-PACKETS};
 ghost use Rattle.packets.specs.declared.packet.Packet.{Packet};
 ghost use Rattle.pending.specs.declared.list.Tickets.{Tickets};
-ghost use Rattle.events.specs.Answers.{event_of, completion_of};
+ghost use Rattle.events.specs.Answers.{event_of, completion_by};
 ghost use Rattle.player.specs.Prints.{Puts, data_length, data_traces, submit_traces, event_traces, feed_traces, feed_text, completion_text};
 
 use events::answer::{Answer, Event, Returned};
@@ -14,7 +14,6 @@ use messages::message::Transfer;
 use packets::packet::Packet;
 use pending::list::Tickets;
 use traces::{trace_data, trace_feed, trace_header, trace_packets, trace_record, trace_removed};
-use verdicts::verdict::Refusal;
 use wire::codes::{DIR_OUT, SETUP_LEN};
 
 // How many bytes of data came with a submit.
@@ -112,12 +111,12 @@ pub(crate) fn put_completion(
     packets: usize,
     ticket: u64,
     actual: u32,
-    answer: Result<Returned, Refusal>,
+    answer: Result<Returned, u32>,
     header: &[u8],
     out: &mut [u8],
 ) -> usize
     requires { packets ≤ MAX-PACKETS }
-    ensures { Puts (completion_text traced packets ticket actual (completion_of answer) header.now) out.old out.new result }
+    ensures { Puts (completion_text traced packets ticket actual (completion_by answer) header.now) out.old out.new result }
 {
     let n = complete_line(ticket, actual, answer, out);
     if traced {

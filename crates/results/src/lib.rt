@@ -60,7 +60,7 @@ impl Results {
 
     // No actual length is above its packet's.
     fn all_within(&self, iso: &[Packet]) -> bool
-        requires { self.now.count ≡ length iso.now }
+        requires { self.now.count ≤ length iso.now }
         ensures { result ≡ all_within iso.now (results_of self.now) }
     {
         self.listed()

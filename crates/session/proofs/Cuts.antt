@@ -24,9 +24,6 @@ use Rattle.events.specs.Plans.{Result}
 use Rattle.events.specs.declared.answer.Event.{Event as Case}
 use Rattle.events.specs.declared.answer.Event.TheVariants.{Hungry, List as Listed, Import, Submit, Answer as Answered, Unlink, Break, Refused}
 use Rattle.std.specs.Prelude.{Some, None}
-use Rattle.verdicts.specs.Numbers.{refusal_number}
-use Rattle.verdicts.specs.declared.verdict.Refusal.{Refusal}
-use Rattle.verdicts.specs.declared.verdict.Refusal.TheVariants.{ShortBuffer, BadTable, SessionClosed, NotPending, StatusAbove0, Misfit, ShortData}
 use Rattle.feeding.specs.Feeding.{fed_of}
 use Rattle.session.specs.Views.{view_of, fed_as, Tidy}
 use Rattle.session.specs.Acts.{Feeds}
@@ -36,23 +33,8 @@ use Rattle.session.proofs.Run.{one-session}
 
 -- ## An answer of the definitions, as the code has it
 
--- the refusal that has a number
-abbrev refusal_of : ℕ → Refusal
-refusal_of n =
-    cond (eqb n 1) ShortBuffer (cond (eqb n 2) BadTable (cond (eqb n 3) SessionClosed
-    (cond (eqb n 4) NotPending (cond (eqb n 5) StatusAbove0 (cond (eqb n 6) Misfit ShortData)))))
-
-refusal-of : (r : Refusal) → r ≡ refusal_of (refusal_number r)
-refusal-of ShortBuffer = refl
-refusal-of BadTable = refl
-refusal-of SessionClosed = refl
-refusal-of NotPending = refl
-refusal-of StatusAbove0 = refl
-refusal-of Misfit = refl
-refusal-of ShortData = refl
-
 abbrev case_of : Outcome Event → Case
-case_of (refused n) = Refused (refusal_of n)
+case_of (refused n) = Refused n
 case_of (done Event.hungry) = Hungry
 case_of (done Event.list) = Listed
 case_of (done (Event.import st)) = Import st
@@ -71,7 +53,7 @@ case-of (Answered q st) setup iso ts = refl
 case-of (Unlink q st (Some t)) setup iso ts = refl
 case-of (Unlink q st None) setup iso ts = refl
 case-of (Break f) setup iso ts = refl
-case-of (Refused r) setup iso ts = ap Refused (refusal-of r)
+case-of (Refused n) setup iso ts = refl
 
 abbrev noted_as : Note Cut.Answer ℕ Buffers → Noted
 noted_as a =

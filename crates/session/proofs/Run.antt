@@ -158,7 +158,7 @@ never : {A B : Type 0} {x : A} {n : ℕ} → done x ≡ refused n → B
 never h = let q : ◌≡◌ {A = ℕ} 0 1 = cc h in absurd (omega arith)
 
 feed_case : (e : Case) (setup : List ℕ) (iso : List Packet) (ts : Tickets) (n : ℕ) → event_of e setup iso ts ≡ refused n
-    → (r : Refusal) × (e ≡ Refused r)
+    → (r : ℕ) × (e ≡ Refused r)
 feed_case Hungry setup iso ts n h = never h
 feed_case Listed setup iso ts n h = never h
 feed_case (Import st) setup iso ts n h = never h

@@ -24,7 +24,7 @@ pub record Opens (t : Table) (r : Opened) : Type 0 where
 -- A feed, with the lent buffers at entry and at exit and the time that was given.
 pub record Feeds (s : Session) (piece : List ℕ) (entry exit : Buffers) (time : ℕ) (r : Fed) : Type 0 where
   pub said : fed_as r exit.work exit.reply ≡ fed_of (view_of s) entry piece time
-  pub same : (refusal : Refusal) → r.answer.event ≡ Refused refusal → r.session ≡ s
+  pub same : (number : ℕ) → r.answer.event ≡ Refused number → r.session ≡ s
   pub tidy : Tidy s → Tidy r.session
 
 -- A completion, with the header buffer at exit.

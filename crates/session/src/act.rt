@@ -8,8 +8,6 @@ ghost use Rattle.model.specs.State.{numbers_of, served_devid};
 ghost use Rattle.model.specs.Acts.{plain, isochronous};
 ghost use Rattle.model.specs.Cut.{lent};
 ghost use Rattle.results.specs.declared.Results.{Results};
-ghost use Rattle.pending.specs.Pending.{list_of};
-ghost use Rattle.feeding.specs.Asking.{look_asked};
 ghost use Rattle.settling.specs.Settling.{given_for};
 ghost use Rattle.session.specs.Views.{standing_of, view_of, fresh_session, handed, answer_of};
 ghost use Rattle.session.specs.Values.{request_fed, feed_value, plain_given, iso_given, complete_value, close_value, stale_value};
@@ -29,7 +27,7 @@ use limits::{ATTACHED, CLOSED, WAITING};
 use links::link::{Standing, fresh_link};
 use pending::counts::Numbers;
 use pending::list::Pending;
-use pending::look::{Key, Look};
+use pending::look::Key;
 use results::Results;
 use settling::close::plan_close;
 use settling::completion::{Given, plan_completion};
@@ -65,13 +63,6 @@ fn answer_of(plan: Plan, length: usize) -> Answer
         setup: setup,
         iso: iso,
     }
-}
-
-// What a piece asks for is looked up, if it asks.
-fn look_asked(list: Pending, key: Option<Key>) -> Option<Look>
-    ensures { result ≡ look_asked (list_of list) key }
-{
-    list.look(key?)
 }
 
 impl Session {
@@ -143,7 +134,7 @@ impl Session {
         }
         let list = self.pending;
         let asked = ask(link, piece);
-        let look = look_asked(list, asked.key);
+        let look = list.look(asked.key);
         let now = self.standing();
         let plan = plan_piece(now, asked, look, piece, work.len(), reply.len(), time);
         let next = plan.link;
@@ -170,7 +161,7 @@ impl Session {
     {
         let list = self.pending;
         let now = self.standing();
-        let look = list.look(Key::Ticket(ticket));
+        let look = list.look(Some(Key::Ticket(ticket)));
         let plan = plan_completion(now, look, given, payload.len(), header.len());
         let next = plan.link;
         let change = plan.change;

@@ -210,10 +210,22 @@ module _ (t : Table) (k : Link) (l : Pending) (given : Given) (ticket : ℕ) (pa
     returned_tidy h =
         record { list = remove_clean l it.place h.list; head = h.head; phase = sym (ap (λ (z : Sess). z.link.phase) fits) }
 
-  returned_done : ((r : Results) → given.results ≡ Some r → length r.list ≡ Limits.MAX-PACKETS) → k.counts.accepted ≤ Limits.LAST-TICKET
+  -- what no test refuses was found
+  found_one : first tests ≡ none → (it : Look) × (look ≡ Some it)
+  unfolding decide
+  found_one f = at look refl
+    where
+      at : (o : Maybe Look) → look ≡ o → (it : Look) × (look ≡ Some it)
+      at None h =
+          let good = completion_clear seen (first_numbered refusal_number tests ∙ rw f) in
+          let q : ◌≡◌ {A = Maybe Named} None (Some good.2.0) = sym (ap (named_look given) h) ∙ good.2.1 in
+          absurd (let z : ◌≡◌ {A = ℕ} 0 1 = cc q in omega arith)
+      at (Some it) h = (it, h)
+
+  found-done : ((r : Results) → given.results ≡ Some r → length r.list ≡ Limits.MAX-PACKETS) → k.counts.accepted ≤ Limits.LAST-TICKET
       → first tests ≡ none → (it : Look) → look ≡ Some it → CompletionDone (return_plan k l.count it given) t k l (told given.results) c
   unfolding decide
-  returned_done a b f it h =
+  found-done a b f it h =
       let good = completion_clear seen (first_numbered refusal_number tests ∙ rw f) in
       let v = live s good.0 in
       let u = look_transfer (list_of l) where_is it h in
@@ -238,23 +250,18 @@ module _ (t : Table) (k : Link) (l : Pending) (given : Given) (ticket : ℕ) (pa
         tidy = returned_tidy b v it h;
       }
 
+  returned_done : ((r : Results) → given.results ≡ Some r → length r.list ≡ Limits.MAX-PACKETS) → k.counts.accepted ≤ Limits.LAST-TICKET
+      → first tests ≡ none → (it : Look) × (look ≡ Some it) × CompletionDone (return_plan k l.count it given) t k l (told given.results) c
+  returned_done a b f = let o = found_one f in (o.0, o.1, found-done a b f o.0 o.1)
+
 pub completion_composed : CompletionComposed
 unfolding completion_plan decide
 completion_composed t k l given ticket payload header w a b = at (first (tests t k l given ticket payload header w)) refl
   where
-    which : first (tests t k l given ticket payload header w) ≡ none → (o : Maybe Look) → look t k l given ticket payload header w ≡ o
-        → CompletionDone (found_plan k l.count o given) t k l (told given.results) (given_for given ticket payload header)
-    which f None h =
-        let good = completion_clear (seen t k l given ticket payload header w)
-        (first_numbered refusal_number (tests t k l given ticket payload header w) ∙ rw f) in
-        let q : ◌≡◌ {A = Maybe Named} None (Some good.2.0) = sym (ap (named_look given) h) ∙ good.2.1 in
-        absurd (let z : ◌≡◌ {A = ℕ} 0 1 = cc q in omega arith)
-    which f (Some it) h = returned_done t k l given ticket payload header w a b f it h
-
     at : (o : Option Refusal) → first (tests t k l given ticket payload header w) ≡ o
         → CompletionDone (decide o (refusal_plan k l.count) (found_plan k l.count (look t k l given ticket payload header w) given)) t k l
         (told given.results) (given_for given ticket payload header)
-    at none f = which f (look t k l given ticket payload header w) refl
+    at none f = let d = returned_done t k l given ticket payload header w a b f in rw d.1 d.2
     at (some r) f = refused-done t k l given ticket payload header w r f
 
 -- ## A close

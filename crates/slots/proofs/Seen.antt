@@ -5,7 +5,7 @@ use mathlib.Core.Bool.{Bool, true, false}
 use mathlib.Core.List.{List}
 use native.Mathlib.Omega.{arith}
 use borrow.Author.Tests.{lt-ltb, le-ltb}
-use lib.Dec.{ltb}
+use lib.Dec.{eqb, ltb}
 use lib.ListN.{length, take, drop, get_or, length-take, length-map}
 use lib.Seq.{get_or-drop}
 use Rattle.ground.proofs.Lists.{read-inside}
@@ -13,11 +13,20 @@ use Rattle.halving.specs.Halving.{halved}
 use Rattle.halving.proofs.Halving.{halving_inside}
 use Rattle.pending.specs.declared.urb.Urb.{Urb}
 use Rattle.pending.specs.declared.look.Key.TheVariants.{Seqnum, Ticket}
-use Rattle.std.specs.Prelude.{Some, None}
+use Rattle.std.specs.Prelude.{Option, Some, None, position, unwrap_or}
 use Rattle.pending.specs.Pending.{ticket_of, seqnum_of, no_urb, blank, tickets, Place, At, Nothing, place_by}
-use Rattle.pending.specs.Looks.{look_at, look_for}
-use Rattle.pending.proofs.Finding.{place-first}
+use Rattle.pending.specs.Looks.{place_option, look_at, look_for}
+use Rattle.pending.proofs.Finding.{place-first, position_place}
 use Rattle.slots.specs.Slots.{place_or, seen_at, BlankedFromZero, SeqnumSeen, TicketSeen, KeySeen}
+
+-- a place as the code says it, as a number
+unwrapped : (n : ℕ) (p : Place) → unwrap_or (place_option p) n ≡ place_or n p
+unwrapped n Nothing = refl
+unwrapped n (At i) = refl
+
+pub sought : (r n q : ℕ) (us part : List Urb) (o : Option ℕ) → part ≡ us → o ≡ position (λ u. eqb (seqnum_of u) q) part → r ≡ unwrap_or o n
+    → r ≡ place_or n (place_by seqnum_of q us)
+sought r n q us part o p e h = rw (h, e, p, position_place seqnum_of q us) (unwrapped n (place_by seqnum_of q us))
 
 pub blanked_from_zero : BlankedFromZero
 blanked_from_zero n us = refl

@@ -11,6 +11,7 @@ use pending::urb::Urb;
 
 // The first of the n from place from on that has a seqnum: its place, counted from there, or n where none has it. (A number for none: what
 // is proved of it, SeqnumSeen and KeySeen, speaks of it.)
+#[tactic(auto, using(crate::proofs::Seen::sought))]
 pub fn seek_seqnum(urbs: &[Urb], from: usize, n: usize, seqnum: u32) -> usize
     ensures { result ≡ place_or n (place_by seqnum_of seqnum (take n (drop from urbs.now))) }
 {

@@ -5,7 +5,7 @@ ghost use Rattle.std.specs.Prelude.{ℕ, ◌+◌, ◌*◌, ◌≤◌, List, [], 
 ghost use Rattle.ground.specs.Writing.{Wrote};
 ghost use Rattle.limits.specs.Limits.{MAX-PACKETS};
 ghost use Rattle.packets.specs.declared.packet.Packet.{Packet};
-ghost use Rattle.events.specs.Answers.{removed_of, completion_of};
+ghost use Rattle.events.specs.Answers.{removed_of, completion_by};
 ghost use Rattle.numerals.specs.Digits.{ascii};
 ghost use Rattle.numerals.specs.Texts.{WORD-LEN, FIELD-LEN, fields, line_of, text_of, TextHolds, HasRoom};
 ghost use Rattle.traces.specs.Traces.{RECORD-LEN, hex_field, feed_trace, record_fields, record_trace, data_trace};
@@ -16,7 +16,6 @@ use limits::MAX_PACKETS;
 use messages::message::{Transfer, iso_count};
 use numerals::text::Text;
 use packets::packet::Packet;
-use verdicts::verdict::Refusal;
 use wire::codes::{DESCRIPTOR_LEN, HEADER_LEN, SETUP_LEN};
 
 // A line whose last field is bytes.
@@ -111,12 +110,12 @@ pub fn trace_removed(removed: Option<u64>, out: &mut [u8]) -> usize
 // The same of a completion of so many packets and the header buffer that it left. (The bound keeps a sum of sizes small.)
 pub fn trace_header(
     packets: usize,
-    answer: Result<Returned, Refusal>,
+    answer: Result<Returned, u32>,
     header: &[u8],
     out: &mut [u8],
 ) -> usize
     requires { packets ≤ MAX-PACKETS }
-    ensures { Wrote (header_trace packets (completion_of answer) header.now) out.old out.new result }
+    ensures { Wrote (header_trace packets (completion_by answer) header.now) out.old out.new result }
 {
     let (wire, size) = match answer {
         Ok(returned) => (returned.length, HEADER_LEN + packets * DESCRIPTOR_LEN),

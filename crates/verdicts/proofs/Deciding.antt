@@ -6,11 +6,11 @@ use mathlib.Core.List.{List, [], ◌∷◌, ◌++◌}
 use mathlib.Core.Option.{Option, none, some}
 use Rattle.wire.specs.Codes
 use Rattle.messages.specs.declared.message.Header.{Header}
+use Rattle.limits.specs.Limits
 use Rattle.std.specs.Prelude.{Result, Ok, Err, ⊤}
 use Rattle.ground.specs.Tests.{Test, test, first, decide}
 use Rattle.verdicts.specs.Numbers.{numbered}
 use Rattle.verdicts.specs.Verdicts.{verdict_of, fault, transfer_tests, header_tests}
-use Rattle.verdicts.specs.declared.verdict.FaultKind.TheVariants.{SeqnumPending}
 
 -- ## The first test that holds, by the code's answer
 
@@ -67,6 +67,6 @@ first-append (t ∷ ts) us = at t.holds (first-append ts us)
 
 -- a submit: its own fields first, then whether its seqnum is pending
 pub submit-first : (h : Header) (devid : ℕ) (taken : Bool) → h.command ≡ Codes.CMD-SUBMIT
-    → let pending = fault SeqnumPending Codes.SEQNUM-AT in
+    → let pending = fault Limits.SEQNUM-PENDING Codes.SEQNUM-AT in
     first (header_tests h devid taken) ≡ decide (first (transfer_tests h.transfer)) some (cond taken (some pending) none)
-submit-first h devid taken e = rw e (first-append (transfer_tests h.transfer) (test (fault SeqnumPending Codes.SEQNUM-AT) taken ∷ []))
+submit-first h devid taken e = rw e (first-append (transfer_tests h.transfer) (test (fault Limits.SEQNUM-PENDING Codes.SEQNUM-AT) taken ∷ []))

@@ -24,7 +24,6 @@ use Rattle.verdicts.specs.Verdicts.{of_named}
 use Rattle.verdicts.specs.declared.verdict.Named.{Named}
 use Rattle.verdicts.specs.declared.verdict.Completing.{Completing}
 use Rattle.verdicts.specs.declared.verdict.Fault.{Fault}
-use Rattle.verdicts.specs.declared.verdict.FaultKind.TheVariants.{SeqnumPending, BadCommand}
 use Rattle.ground.proofs.Match.{Match, Decides, before, guarded, either_match}
 
 pub iff_refl : {P : Type 0} → P ↔ P
@@ -88,14 +87,14 @@ header_match h devid taken Taken Dirty t d =
     let unlink = eqb h.command Codes.CMD-UNLINK in
     let is : (submit ≡ true) ↔ submits = eqb_iff h.command Codes.CMD-SUBMIT in
     let un : (unlink ≡ true) ↔ unlinks = eqb_iff h.command Codes.CMD-UNLINK in
-    let pending = test (fault SeqnumPending Codes.SEQNUM-AT) taken ∷ [] in
-    let rows = row (fault SeqnumPending Codes.SEQNUM-AT) Taken ∷ [] in
+    let pending = test (fault Limits.SEQNUM-PENDING Codes.SEQNUM-AT) taken ∷ [] in
+    let rows = row (fault Limits.SEQNUM-PENDING Codes.SEQNUM-AT) Taken ∷ [] in
     let ts = transfer_tests h.transfer ++ pending in
     let rs = transfer_rows h.transfer ++ rows in
     let us = unlink_tests h devid in
     let qs = unlink_rows h devid Dirty in
-    before (test (fault BadCommand Codes.COMMAND-AT) (not (submit || unlink)))
-    (row (fault BadCommand Codes.COMMAND-AT) (Not h.command Codes.CMD-SUBMIT × Not h.command Codes.CMD-UNLINK))
+    before (test (fault Limits.BAD-COMMAND Codes.COMMAND-AT) (not (submit || unlink)))
+    (row (fault Limits.BAD-COMMAND Codes.COMMAND-AT) (Not h.command Codes.CMD-SUBMIT × Not h.command Codes.CMD-UNLINK))
     (cond submit ts us) (guarded submits rs ++ guarded unlinks qs) refl (neither is un)
     (λ known. either_match submits unlinks submit
     (λ e. (is.0 e, λ u. omega (arith, is.0 e)))

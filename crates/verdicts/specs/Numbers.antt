@@ -1,5 +1,5 @@
 -- The numbers of refusals and of faults (PROTOCOL.md, 5 and 6).
-use Rattle.std.specs.Prelude.{ℕ, List, [], ◌∷◌}
+use Rattle.std.specs.Prelude.{ℕ, Result, Ok, Err, List, [], ◌∷◌}
 use Rattle.ground.specs.Tests.{Test, test}
 use Rattle.limits.specs.Limits
 use Rattle.verdicts.specs.declared.verdict.Refusal.{Refusal}
@@ -26,6 +26,11 @@ fault_number BadPackets = Limits.BAD-PACKETS
 fault_number SeqnumPending = Limits.SEQNUM-PENDING
 fault_number DirtyPadding = Limits.DIRTY-PADDING
 fault_number BadDevid = Limits.BAD-DEVID
+
+-- An answer whose refusal is given as its number.
+abbrev pub by_number : {A : Type 0} → Result A Refusal → Result A ℕ
+by_number (Ok a) = Ok a
+by_number (Err r) = Err (refusal_number r)
 
 -- A table of tests whose answers are given as numbers.
 abbrev pub numbered : {A : Type 0} → (A → ℕ) → List (Test A) → List (Test ℕ)

@@ -12,8 +12,6 @@ use Rattle.ground.specs.Tests.{Test, test}
 use Rattle.ground.specs.Rows.{Row, row}
 use Rattle.verdicts.specs.declared.verdict.Refusal.{Refusal}
 use Rattle.verdicts.specs.declared.verdict.Refusal.TheVariants.{ShortBuffer, SessionClosed, NotPending, StatusAbove0, Misfit, ShortData}
-use Rattle.verdicts.specs.declared.verdict.FaultKind.{FaultKind}
-use Rattle.verdicts.specs.declared.verdict.FaultKind.TheVariants.{BadVersion, BadCode, BadCommand, BadDirection, BadLength, BadPackets, SeqnumPending, DirtyPadding, BadDevid}
 use Rattle.verdicts.specs.declared.verdict.Fault.{Fault}
 use Rattle.verdicts.specs.Numbers.{refusal_number, numbered}
 use Rattle.verdicts.specs.declared.verdict.Completing.{Completing}
@@ -26,9 +24,9 @@ abbrev pub verdict_of : {E : Type 0} → Option E → Result ⊤ E
 verdict_of none = Ok tt
 verdict_of (some e) = Err e
 
--- A fault of the stream, and where it stands in its request or message.
-abbrev pub fault : FaultKind → (at : ℕ) → Fault
-fault k at = record { kind = k; at = at }
+-- A fault of the stream: its number, and where it stands in its request or message.
+abbrev pub fault : (number at : ℕ) → Fault
+fault n at = record { number = n; at = at }
 
 abbrev pub Not : ℕ → ℕ → Type 0
 Not a b = a ≡ b → ⊥
@@ -69,16 +67,16 @@ feed_rows closed work reply =
 
 abbrev pub request_tests : Request → List (Test Fault)
 request_tests r =
-    test (fault BadVersion Codes.VERSION-AT) (not (eqb r.version Codes.VERSION))
-    ∷ test (fault BadCode Codes.CODE-AT) (not (eqb r.code Codes.OP-REQ-DEVLIST || eqb r.code Codes.OP-REQ-IMPORT))
-    ∷ test (fault DirtyPadding Codes.OP-STATUS-AT) (not (eqb r.status 0))
+    test (fault Limits.BAD-VERSION Codes.VERSION-AT) (not (eqb r.version Codes.VERSION))
+    ∷ test (fault Limits.BAD-CODE Codes.CODE-AT) (not (eqb r.code Codes.OP-REQ-DEVLIST || eqb r.code Codes.OP-REQ-IMPORT))
+    ∷ test (fault Limits.DIRTY-PADDING Codes.OP-STATUS-AT) (not (eqb r.status 0))
     ∷ []
 
 abbrev pub request_rows : Request → List (Row Fault)
 request_rows r =
-    row (fault BadVersion Codes.VERSION-AT) (Not r.version Codes.VERSION)
-    ∷ row (fault BadCode Codes.CODE-AT) (Not r.code Codes.OP-REQ-DEVLIST × Not r.code Codes.OP-REQ-IMPORT)
-    ∷ row (fault DirtyPadding Codes.OP-STATUS-AT) (Not r.status 0)
+    row (fault Limits.BAD-VERSION Codes.VERSION-AT) (Not r.version Codes.VERSION)
+    ∷ row (fault Limits.BAD-CODE Codes.CODE-AT) (Not r.code Codes.OP-REQ-DEVLIST × Not r.code Codes.OP-REQ-IMPORT)
+    ∷ row (fault Limits.DIRTY-PADDING Codes.OP-STATUS-AT) (Not r.status 0)
     ∷ []
 
 -- ## Feed: 12 comes with the 48th byte of a message, 13 to 16 for submits and 17 and 18 for unlinks, too
@@ -86,51 +84,51 @@ request_rows r =
 -- 13 to 15: a submit, by its own fields alone.
 abbrev pub transfer_tests : Transfer → List (Test Fault)
 transfer_tests t =
-    test (fault BadDirection Codes.DIRECTION-AT) (ltb Codes.DIR-IN t.direction)
-    ∷ test (fault BadLength Codes.LENGTH-AT) (ltb Limits.MAX-TRANSFER t.length)
-    ∷ test (fault BadPackets Codes.PACKETS-AT) (not (good_count t.packets))
+    test (fault Limits.BAD-DIRECTION Codes.DIRECTION-AT) (ltb Codes.DIR-IN t.direction)
+    ∷ test (fault Limits.BAD-LENGTH Codes.LENGTH-AT) (ltb Limits.MAX-TRANSFER t.length)
+    ∷ test (fault Limits.BAD-PACKETS Codes.PACKETS-AT) (not (good_count t.packets))
     ∷ []
 
 abbrev pub transfer_rows : Transfer → List (Row Fault)
 transfer_rows t =
-    row (fault BadDirection Codes.DIRECTION-AT) (Codes.DIR-IN < t.direction)
-    ∷ row (fault BadLength Codes.LENGTH-AT) (Limits.MAX-TRANSFER < t.length)
-    ∷ row (fault BadPackets Codes.PACKETS-AT) ((Limits.MAX-PACKETS < t.packets) × Not t.packets Limits.NO-PACKETS)
+    row (fault Limits.BAD-DIRECTION Codes.DIRECTION-AT) (Codes.DIR-IN < t.direction)
+    ∷ row (fault Limits.BAD-LENGTH Codes.LENGTH-AT) (Limits.MAX-TRANSFER < t.length)
+    ∷ row (fault Limits.BAD-PACKETS Codes.PACKETS-AT) ((Limits.MAX-PACKETS < t.packets) × Not t.packets Limits.NO-PACKETS)
     ∷ []
 
 -- 17 and 18: an unlink, by its own fields and the devid of the device that is attached.
 abbrev pub unlink_tests : Header → (devid : ℕ) → List (Test Fault)
 unlink_tests h devid =
-    test (fault DirtyPadding h.dirty) (ltb h.dirty Codes.HEADER-LEN)
-    ∷ test (fault BadDevid Codes.DEVID-AT) (not (eqb h.devid devid))
+    test (fault Limits.DIRTY-PADDING h.dirty) (ltb h.dirty Codes.HEADER-LEN)
+    ∷ test (fault Limits.BAD-DEVID Codes.DEVID-AT) (not (eqb h.devid devid))
     ∷ []
 
 -- dirty: a byte of the unlink's padding isn't 0.
 abbrev pub unlink_rows : Header → (devid : ℕ) → (dirty : Type 0) → List (Row Fault)
 unlink_rows h devid dirty =
-    row (fault DirtyPadding h.dirty) dirty
-    ∷ row (fault BadDevid Codes.DEVID-AT) (Not h.devid devid)
+    row (fault Limits.DIRTY-PADDING h.dirty) dirty
+    ∷ row (fault Limits.BAD-DEVID Codes.DEVID-AT) (Not h.devid devid)
     ∷ []
 
 -- taken: the submit's seqnum is pending. What is no submit and gets past 12 is an unlink.
 abbrev pub header_tests : Header → (devid : ℕ) → (taken : Bool) → List (Test Fault)
 header_tests h devid taken =
     let isSubmit = eqb h.command Codes.CMD-SUBMIT in
-    test (fault BadCommand Codes.COMMAND-AT) (not (isSubmit || eqb h.command Codes.CMD-UNLINK))
-    ∷ cond isSubmit (transfer_tests h.transfer ++ (test (fault SeqnumPending Codes.SEQNUM-AT) taken ∷ [])) (unlink_tests h devid)
+    test (fault Limits.BAD-COMMAND Codes.COMMAND-AT) (not (isSubmit || eqb h.command Codes.CMD-UNLINK))
+    ∷ cond isSubmit (transfer_tests h.transfer ++ (test (fault Limits.SEQNUM-PENDING Codes.SEQNUM-AT) taken ∷ [])) (unlink_tests h devid)
 
 abbrev pub header_rows : Header → (devid : ℕ) → (taken dirty : Type 0) → List (Row Fault)
 header_rows h devid taken dirty =
     let isSubmit = h.command ≡ Codes.CMD-SUBMIT in
     let isUnlink = h.command ≡ Codes.CMD-UNLINK in
     let t = h.transfer in
-    row (fault BadCommand Codes.COMMAND-AT) (Not h.command Codes.CMD-SUBMIT × Not h.command Codes.CMD-UNLINK)
-    ∷ row (fault BadDirection Codes.DIRECTION-AT) (isSubmit × (Codes.DIR-IN < t.direction))
-    ∷ row (fault BadLength Codes.LENGTH-AT) (isSubmit × (Limits.MAX-TRANSFER < t.length))
-    ∷ row (fault BadPackets Codes.PACKETS-AT) (isSubmit × ((Limits.MAX-PACKETS < t.packets) × Not t.packets Limits.NO-PACKETS))
-    ∷ row (fault SeqnumPending Codes.SEQNUM-AT) (isSubmit × taken)
-    ∷ row (fault DirtyPadding h.dirty) (isUnlink × dirty)
-    ∷ row (fault BadDevid Codes.DEVID-AT) (isUnlink × Not h.devid devid)
+    row (fault Limits.BAD-COMMAND Codes.COMMAND-AT) (Not h.command Codes.CMD-SUBMIT × Not h.command Codes.CMD-UNLINK)
+    ∷ row (fault Limits.BAD-DIRECTION Codes.DIRECTION-AT) (isSubmit × (Codes.DIR-IN < t.direction))
+    ∷ row (fault Limits.BAD-LENGTH Codes.LENGTH-AT) (isSubmit × (Limits.MAX-TRANSFER < t.length))
+    ∷ row (fault Limits.BAD-PACKETS Codes.PACKETS-AT) (isSubmit × ((Limits.MAX-PACKETS < t.packets) × Not t.packets Limits.NO-PACKETS))
+    ∷ row (fault Limits.SEQNUM-PENDING Codes.SEQNUM-AT) (isSubmit × taken)
+    ∷ row (fault Limits.DIRTY-PADDING h.dirty) (isUnlink × dirty)
+    ∷ row (fault Limits.BAD-DEVID Codes.DEVID-AT) (isUnlink × Not h.devid devid)
     ∷ []
 
 -- ## Feed: a submit that passes is judged when its last byte is in, by status

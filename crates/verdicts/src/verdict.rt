@@ -3,7 +3,7 @@
 ghost use Rattle.std.specs.Prelude.{◌≡◌, not, ◌&&◌, ◌||◌, eqb, ltb};
 ghost use Rattle.wire.specs.Codes;
 ghost use Rattle.ground.specs.Tests.{first};
-ghost use Rattle.verdicts.specs.Numbers.{refusal_number, fault_number};
+ghost use Rattle.verdicts.specs.Numbers.{refusal_number, fault_number, by_number};
 ghost use Rattle.verdicts.specs.Verdicts.{verdict_of, fault, feed_refusals, request_tests, transfer_tests, header_tests, submit_tests};
 ghost use Rattle.verdicts.specs.Verdicts.{unlink_tests, non_isochronous, good_count, completion_refusals, short_read, status_sent};
 
@@ -50,6 +50,16 @@ impl From<Refusal> for u32 {
     }
 }
 
+// An answer whose refusal is its number, as what prints or hands on an answer takes it.
+pub fn by_number<T: Drop>(answer: Result<T, Refusal>) -> Result<T, u32>
+    ensures { result ≡ by_number answer }
+{
+    match answer {
+        Ok(value) => Ok(value),
+        Err(refusal) => Err(u32::from(refusal)),
+    }
+}
+
 // What is wrong with a stream. PROTOCOL.md, 6 has the number of each.
 #[derive(Clone, Copy, Debug, PartialEq, Eq)]
 pub enum FaultKind {
@@ -82,17 +92,22 @@ impl From<FaultKind> for u32 {
     }
 }
 
-// A fault of the stream, and at which byte of its request or message it stands. Only the reader of a field makes one.
+// A fault of the stream: its number, and at which byte of its request or message it stands. Only the reader of a field makes one. (A
+// number: the claims about every run speak of it, and what hands on or prints a fault takes any.)
+#[repr(C)]
 #[derive(Clone, Copy, Debug, PartialEq, Eq)]
 pub struct Fault {
-    pub kind: FaultKind,
+    pub number: u32,
     pub at: usize,
 }
 
 fn faulty(kind: FaultKind, at: usize) -> Result<(), Fault>
-    ensures { result ≡ Err (fault kind at) }
+    ensures { result ≡ Err (fault (fault_number kind) at) }
 {
-    Err(Fault { kind, at })
+    Err(Fault {
+        number: u32::from(kind),
+        at,
+    })
 }
 
 // A feed, before a byte is looked at: is the session closed, and how long are the buffers?

@@ -31,6 +31,6 @@ returns-clause-ok g c =
     read_on w c.args.buf.now after got c.requires.0 c.requires.1
     (same_len_mid left room moved came p ∙ e)
     (omega (arith, (c.in_ok-got.ensures).0, n, length-drop left moved, e, c.requires.0.0, c.requires.0.1))
-    (take_put left room moved came (omega (arith, e, c.requires.0.1)) ∙ rw c.copy_within.ensures.after (copied c.args.buf.now w.at w.end c.requires.0.0 c.requires.0.1))
+    (take_put left room moved came (omega (arith, e, c.requires.0.1)) ∙ rw c.copy_within.ensures.after (copied c.args.buf.now _ w.at w.end (omega arith) c.requires.0.0 c.requires.0.1))
     (ltb (left + got) (length moved))
     (ap (ltb (left + got)) e)

@@ -13,7 +13,7 @@ unfolding message_plan decide
 returns-in-Err c =
     let tests = feed_refusals (not (eqb (phase_of c.args.now.link c.args.now.pending) Limits.ATTACHED)) c.args.work c.args.reply in
     let e = rw c.phase-closed.ensures at c.feed_refusal.ensures in
-    rw (first_err (first tests) c.feed_refusal.result c.in-Err.refusal e c.in-Err.is, c.plan_refused.ensures)
+    rw (first_err (first tests) c.feed_refusal.result c.in-Err.refusal e c.in-Err.is, c.plan_refused.ensures, c.from.ensures)
 
 pub returns-in-Ok : goal.returns-in-Ok
 unfolding message_plan decide

@@ -22,7 +22,7 @@ returns-in-Err c =
     let a = c.args in
     let tests = feed_refusals (not (eqb (phase_of a.now.link a.now.pending) Limits.WAITING)) a.work a.reply in
     let e = rw c.phase-closed.ensures at c.feed_refusal.ensures in
-    rw (first_err (first tests) c.feed_refusal.result c.in-Err.refusal e c.in-Err.is, c.plan_silent.ensures, c.plan_refused.ensures)
+    rw (first_err (first tests) c.feed_refusal.result c.in-Err.refusal e c.in-Err.is, c.plan_silent.ensures, c.plan_refused.ensures, c.from.ensures)
 
 pub returns-in-Ok : goal.returns-in-Ok
 unfolding request_plan decide

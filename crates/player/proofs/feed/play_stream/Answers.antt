@@ -28,7 +28,7 @@ loop-turn-preserved c =
     let b = lent l.work l.reply in
     let f = c.feed_once-told in
     let t = rw (rest-drop bytes l.at) at f.ensures in
-    let e : (f.result.end || eqb (l.at + f.result.consumed) (length bytes)) ≡ false = rw c.if-told.false (ne_eqb _ _ c.if-at-bytes.false) in (
+    let e : (f.result.end || eqb (l.at + f.result.consumed) (length bytes)) ≡ false = rw c.if-told.false (ne_eqb _ _ (λ q. omega (arith, q, c.if-at-bytes.false))) in (
       at_within s b bytes l.at f.result t l.invariant.0,
       f.auto.work ∙ l.invariant.1,
       f.auto.reply ∙ l.invariant.2,
@@ -50,6 +50,6 @@ returns-then-told c =
     let f = c.feed_once-told in
     let t = rw (rest-drop bytes l.at) at f.ensures in
     let e : (f.result.end || eqb (l.at + f.result.consumed) (length bytes)) ≡ true =
-    elim c.then-told.branch [ then-told-via-then-told w ↦ rw w.if-told.true refl | then-told-via-else-told+then-at-bytes w ↦ rw w.if-told.false (eq-eqb _ _ w.if-at-bytes.true) ] in
+    elim c.then-told.branch [ then-told-via-then-told w ↦ rw w.if-told.true refl | then-told-via-else-told+then-at-bytes w ↦ rw w.if-told.false (eq-eqb _ _ (omega (arith, w.if-at-bytes.true, at_within (view_of l.s) (lent l.work l.reply) bytes l.at f.result t l.invariant.0))) ] in
     finished (record { session = f.result.session; len = l.len + f.result.len }) _ _ _ _
     (stopped (view_of l.s) (lent l.work l.reply) bytes l.at l.turn l.invariant.4 f.result t l.invariant.0 c.loop-turn-test.true l.invariant.3 f.auto.out e)

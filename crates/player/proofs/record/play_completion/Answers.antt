@@ -12,4 +12,6 @@ returns c =
     c.device_data-data.ensures
     refl
     c.complete-done.ensures.completes.said
+    c.by_number-answer.result
+    c.by_number-answer.ensures
     c.put_completion-len.ensures

@@ -27,4 +27,6 @@ returns c =
     c.device_data-data.ensures
     (sym (results_length a.results shaped))
     c.complete_iso-done.ensures.completes.said
+    c.by_number-answer.result
+    c.by_number-answer.ensures
     c.put_completion-len.ensures)

@@ -30,9 +30,9 @@ write_planned-n-requires c =
     let r = c.plan_piece-plan.result in
     Composed r (reply_bytes r.iso r.reply) a.self.table a.self.link a.self.pending a.piece.now (lent a.work.now a.reply.now)
     a.time = let a = c.args in
-    message_planned a.self a.piece.now (lent a.work.now a.reply.now) a.time arrays c.ask-asked.result c.look_asked-look.result
+    message_planned a.self a.piece.now (lent a.work.now a.reply.now) a.time arrays c.ask-asked.result c.look-look.result
     c.plan_piece-plan.result
-    c.if-link-eq-WAITING.false c.ask-asked.ensures c.look_asked-look.ensures (rw c.standing-now.ensures at c.plan_piece-plan.ensures) in let k = composed in (k.inside, k.fits)
+    c.if-link-eq-WAITING.false c.ask-asked.ensures c.look-look.ensures (rw c.standing-now.ensures at c.plan_piece-plan.ensures) in let k = composed in (k.inside, k.fits)
 
 pub returns : goal.returns
 returns c =
@@ -41,9 +41,9 @@ returns c =
     let r = c.plan_piece-plan.result in
     Composed r (reply_bytes r.iso r.reply) a.self.table a.self.link a.self.pending a.piece.now (lent a.work.now a.reply.now)
     a.time = let a = c.args in
-    message_planned a.self a.piece.now (lent a.work.now a.reply.now) a.time arrays c.ask-asked.result c.look_asked-look.result
+    message_planned a.self a.piece.now (lent a.work.now a.reply.now) a.time arrays c.ask-asked.result c.look-look.result
     c.plan_piece-plan.result
-    c.if-link-eq-WAITING.false c.ask-asked.ensures c.look_asked-look.ensures (rw c.standing-now.ensures at c.plan_piece-plan.ensures) in
+    c.if-link-eq-WAITING.false c.ask-asked.ensures c.look-look.ensures (rw c.standing-now.ensures at c.plan_piece-plan.ensures) in
     let a = c.args in
     let r = c.plan_piece-plan.result in
     let b = lent a.work.now a.reply.now in
@@ -54,6 +54,6 @@ returns c =
           c.write_planned-n.result arrays.2 composed c.changed-pending.ensures c.tickets-dropped.ensures w.work_after w.wrote w.reply_len_bound;
       value = fed_by_lem a.self a.piece.now b _ a.time r bytes c.changed-pending.result c.tickets-dropped.result c.write_planned-n.result
           composed c.changed-pending.ensures c.tickets-dropped.ensures w.wrote w.reply_len_bound
-          ∙ message-value a.self a.piece.now (length a.work.now) (length a.reply.now) a.time c.ask-asked.result c.look_asked-look.result r
-          c.if-link-eq-WAITING.false c.ask-asked.ensures c.look_asked-look.ensures (rw c.standing-now.ensures at c.plan_piece-plan.ensures);
+          ∙ message-value a.self a.piece.now (length a.work.now) (length a.reply.now) a.time c.ask-asked.result c.look-look.result r
+          c.if-link-eq-WAITING.false c.ask-asked.ensures c.look-look.ensures (rw c.standing-now.ensures at c.plan_piece-plan.ensures);
     })
