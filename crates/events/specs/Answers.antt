@@ -9,7 +9,7 @@ use Rattle.model.specs.Answers.{Outcome, refused, done, Returned, Event, hungry,
 use Rattle.events.specs.declared.answer.Event.{Event as Case}
 use Rattle.events.specs.declared.answer.Event.TheVariants.{Hungry, List as Listed, Import, Submit, Answer as Answered, Unlink, Break, Refused}
 use Rattle.events.specs.declared.answer.Returned.{Returned as Handed}
-use Rattle.verdicts.specs.Numbers.{refusal_number}
+use Rattle.verdicts.specs.Numbers.{by_number}
 use Rattle.verdicts.specs.declared.verdict.Refusal.{Refusal}
 use Rattle.verdicts.specs.declared.verdict.Refusal.TheVariants.{BadTable}
 
@@ -33,23 +33,20 @@ event_of (Unlink q st r) setup iso ts = done (unlink q st (removed_of r))
 event_of (Break f) setup iso ts = done (break f (take ts.count ts.tickets))
 event_of (Refused n) setup iso ts = refused n
 
-abbrev pub completion_of : Result Handed Refusal → Outcome Returned
-completion_of (Ok r) = done (record { wire = r.length; status = r.status })
-completion_of (Err r) = refused (refusal_number r)
-
--- A close drops tickets, an inquiry lists them: they stand beside.
-abbrev pub closing_of : Result ⊤ Refusal → Tickets → Outcome (List ℕ)
-closing_of (Ok u) ts = done (take ts.count ts.tickets)
-closing_of (Err r) ts = refused (refusal_number r)
-
--- The same of answers whose refusal is a number.
+-- An answer whose refusal is a number, and one that the acts hand back. A close drops tickets, an inquiry lists them: they stand beside.
 abbrev pub completion_by : Result Handed ℕ → Outcome Returned
 completion_by (Ok r) = done (record { wire = r.length; status = r.status })
 completion_by (Err n) = refused n
 
+abbrev pub completion_of : Result Handed Refusal → Outcome Returned
+completion_of a = completion_by (by_number a)
+
 abbrev pub closing_by : Result ⊤ ℕ → Tickets → Outcome (List ℕ)
 closing_by (Ok u) ts = done (take ts.count ts.tickets)
 closing_by (Err n) ts = refused n
+
+abbrev pub closing_of : Result ⊤ Refusal → Tickets → Outcome (List ℕ)
+closing_of a = closing_by (by_number a)
 
 abbrev pub inquiry_of : Result ⊤ Refusal → Tickets → Outcome (List ℕ)
 inquiry_of = closing_of

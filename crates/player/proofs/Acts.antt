@@ -7,27 +7,16 @@ use lib.ListN.{length, replicate}
 use Rattle.limits.specs.Limits
 use Rattle.model.specs.State.{Sess}
 use Rattle.model.specs.Acts.{Buffers, Kind, results_in, Complete, complete_of}
-use Rattle.std.specs.Prelude.{Result, Ok, Err, ⊤}
-use Rattle.pending.specs.declared.list.Tickets.{Tickets}
+use Rattle.std.specs.Prelude.{Result}
 use Rattle.verdicts.specs.Numbers.{by_number}
-use Rattle.verdicts.specs.declared.verdict.Refusal.{Refusal}
 use Rattle.events.specs.declared.answer.Returned.{Returned}
-use Rattle.events.specs.Answers.{completion_of, completion_by, closing_of, closing_by}
+use Rattle.events.specs.Answers.{completion_by}
 use Rattle.session.specs.Views.{completed_as, handed}
 use Rattle.session.specs.declared.answer.Completed.{Completed}
 use Rattle.tape.specs.Table.{device_data}
 use Rattle.player.specs.Prints.{Puts, completion_text}
 use Rattle.player.specs.Play.{play_completion}
 use Rattle.player.specs.Played.{Plays}
-
--- an answer by its number says the same
-completion_by_number : (a : Result Returned Refusal) → completion_by (by_number a) ≡ completion_of a
-completion_by_number (Ok r) = refl
-completion_by_number (Err r) = refl
-
-pub close_by_number : (a : Result ⊤ Refusal) (ts : Tickets) → closing_by (by_number a) ts ≡ closing_of a ts
-close_by_number (Ok u) ts = refl
-close_by_number (Err r) ts = refl
 
 pub completion_played : (traced : Bool) (kind : Kind) (packets ticket status actual : ℕ) (r : Completed) (s : Sess)
     (payload left entry exit : List ℕ) (len : ℕ)
@@ -43,5 +32,5 @@ completion_played traced kind packets ticket status actual r s payload left entr
     record {
       next = ap (λ (x : Complete). x.next) d;
       buffers = refl;
-      lines = subst (λ (x : Complete). Puts (text x.answer x.header) entry exit len) d (rw (n, h, completion_by_number r.answer) at p);
+      lines = subst (λ (x : Complete). Puts (text x.answer x.header) entry exit len) d (rw (n, h) at p);
     }

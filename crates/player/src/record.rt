@@ -78,7 +78,6 @@ fn play_iso(
 }
 
 // The session is closed.
-#[tactic(auto, using(crate::proofs::Acts::close_by_number))]
 fn play_close(session: Session, out: &mut [u8]) -> Played
     ensures { (b : Buffers) → Plays result (play_close (view_of session) b) b out.old out.new }
 {
